@@ -1,0 +1,4 @@
+pub mod Counted
+pub mod Leading
+pub mod Picked
+pub mod Ranked

@@ -1,0 +1,11 @@
+use mathlib.Core.Path.{refl}
+use Rattle.measure.specs.Roots.{root}
+use Rattle.measure.specs.Weight.{join-to}
+use Rattle.ranking.specs.Counts.{count}
+use Rattle.ranking.specs.Majority.{leader}
+use Rattle.ranking.specs.Ranks.{nearer}
+use Rattle.samples.proofs.examples.examples_hold.Needs as need
+
+pub returns : need.returns
+unfolding root join-to count leader nearer
+returns c = (refl, refl, refl, refl, refl, refl, refl, refl, refl, refl, refl, refl, refl, refl, refl, refl)
