@@ -55,6 +55,7 @@ count-find p q (suc n) h = go (count-find p q n) (p n) (q n) refl refl
   where
     up : (s : ℕ) × (s < n) × (p s ≡ false) × (q s ≡ true) → (s : ℕ) × (s < suc n) × (p s ≡ false) × (q s ≡ true)
     up r = (r .0, omega arith, r .2, r .3)
+
     go : (count p n < count q n → (s : ℕ) × (s < n) × (p s ≡ false) × (q s ≡ true)) → (a b : Bool) → p n ≡ a → q n ≡ b → (s : ℕ) × (s < suc n) × (p s ≡ false) × (q s ≡ true)
     go i true true d e = up (i (grind arith))
     go i true false d e = up (i (grind arith))

@@ -23,10 +23,16 @@ use ranking::most_common;
 
 // The least and the largest number of nearest samples that can be asked for.
 pub const MIN_K: u16 = 1;
+
 pub const MAX_K: u16 = 32;
 
 // The most common fibre among the k nearest samples, the lowest code where several are as common.
-pub fn exact_verdict<M: Measure>(measure: &M, slots: &Slots, reading: &[u16; BANDS], k: u16) -> Result<u8, Refusal>
+pub fn exact_verdict<M: Measure>(
+    measure: &M,
+    slots: &Slots,
+    reading: &[u16; BANDS],
+    k: u16,
+) -> Result<u8, Refusal>
     ensures value { λ r. ⌜ r ≡ verdict-rule (weighed (now (measure .entry))) (joined (now (measure .entry))) (table (now (slots .entry))) (now (reading .entry)) k ⌝ }
     ensures exact { λ r. ⌜ Cases r (λ f. Exact (weighed (now (measure .entry))) (joined (now (measure .entry))) (table (now (slots .entry))) (now (reading .entry)) k f) (λ _. Unit {0}) ⌝ }
 {
@@ -40,7 +46,12 @@ pub fn exact_verdict<M: Measure>(measure: &M, slots: &Slots, reading: &[u16; BAN
 }
 
 // How many of the k nearest samples have each fibre.
-fn nearest_votes<M: Measure>(measure: &M, slots: &Slots, reading: &[u16; BANDS], k: u16) -> [u16; CODES]
+fn nearest_votes<M: Measure>(
+    measure: &M,
+    slots: &Slots,
+    reading: &[u16; BANDS],
+    k: u16,
+) -> [u16; CODES]
     requires { ⌜ k ≤ samples (table (now slots)) ⌝ }
     ensures { λ r. ⌜ ((f : ℕ) → f < 8 → getD r f 0 ≡ votes (weighed (now (measure .entry))) (joined (now (measure .entry))) (table (now (slots .entry))) (now (reading .entry)) k f) ⌝ }
 {
@@ -59,7 +70,12 @@ fn nearest_votes<M: Measure>(measure: &M, slots: &Slots, reading: &[u16; BANDS],
 }
 
 // Weighs each sample and puts it into the heap.
-fn weigh_all<M: Measure>(measure: &M, slots: &Slots, reading: &[u16; BANDS], heap: &mut Heap<'_, Candidate>)
+fn weigh_all<M: Measure>(
+    measure: &M,
+    slots: &Slots,
+    reading: &[u16; BANDS],
+    heap: &mut Heap<'_, Candidate>,
+)
     requires empty { ⌜ content (now heap) ≡ [] ⌝ }
     requires room { ⌜ 256 ≤ room (now heap) ⌝ }
     ensures holds { λ _. ⌜ Holds (content (now (heap .exit))) (weight-at (weighed (now (measure .entry))) (joined (now (measure .entry))) (table (now (slots .entry))) (now (reading .entry))) (held (table (now (slots .entry)))) 256 ⌝ }

@@ -1,0 +1,5 @@
+pub mod Gathered
+pub mod Numbered
+pub mod Opened
+pub mod Parted
+pub mod Spoken
