@@ -24,6 +24,8 @@ use std::alloc::Global;
 
 mod answer;
 mod replies;
+#[cfg(test)]
+mod tests;
 
 pub use answer::Answer;
 pub use answer::AnswerDisplay;
