@@ -59,7 +59,11 @@ fn answer_by(kind: MeasureKind, script: Script, out: &mut String) -> Result<(), 
 }
 
 // Answers one line after the other, from empty slots on.
-fn answer_lines<M: Measure>(measure: &M, mut script: Script, out: &mut String) -> Result<(), AllocError>
+fn answer_lines<M: Measure>(
+    measure: &M,
+    mut script: Script,
+    out: &mut String,
+) -> Result<(), AllocError>
     ensures { λ r. ⌜ made r (λ _. Printed (weighed (now (measure .entry))) (joined (now (measure .entry))) (text-left (script .entry)) (string-bytes (now (out .entry))) (string-bytes (now (out .exit)))) ⌝ }
 {
     let mut slots = Slots::new();

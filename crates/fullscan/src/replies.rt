@@ -18,14 +18,31 @@ use script::Unreadable;
 const MIN_DEN: u16 = 1;
 
 // Carries out a line on the slots, and says what is printed for it.
-pub fn reply<M: Measure>(measure: &M, slots: &mut Slots, line: Result<Command, Unreadable>) -> Answer
+pub fn reply<M: Measure>(
+    measure: &M,
+    slots: &mut Slots,
+    line: Result<Command, Unreadable>,
+) -> Answer
     ensures { λ r. ⌜ (table (now (slots .exit)), r) ≡ reply-rule (weighed (now (measure .entry))) (joined (now (measure .entry))) (table (now (slots .entry))) line ⌝ }
 {
     match line {
-        Ok(Command::Admit { slot, fibre, values }) => done(Answer::Admitted, slots.admit(slot, fibre, &values)),
+        Ok(
+            Command::Admit {
+                slot,
+                fibre,
+                values,
+            },
+        ) => done(Answer::Admitted, slots.admit(slot, fibre, &values)),
         Ok(Command::Withdraw { slot }) => done(Answer::Withdrawn, slots.withdraw(slot)),
         Ok(Command::Rebuild) => Answer::Rebuilt,
-        Ok(Command::Query { k, num, den, reading }) => judge(measure, slots, k, num, den, &reading),
+        Ok(
+            Command::Query {
+                k,
+                num,
+                den,
+                reading,
+            },
+        ) => judge(measure, slots, k, num, den, &reading),
         Err(Unreadable) => Answer::Refused(Refusal::Unreadable),
     }
 }
@@ -41,7 +58,14 @@ fn done(carried_out: Answer, outcome: Result<(), Refusal>) -> Answer
 }
 
 // The exact verdict, if the ratio can be asked for.
-fn judge<M: Measure>(measure: &M, slots: &Slots, k: u16, num: u16, den: u16, reading: &[u16; BANDS]) -> Answer
+fn judge<M: Measure>(
+    measure: &M,
+    slots: &Slots,
+    k: u16,
+    num: u16,
+    den: u16,
+    reading: &[u16; BANDS],
+) -> Answer
     ensures { λ r. ⌜ r ≡ cond (ratio-ok num den) (judged (verdict-rule (weighed (now (measure .entry))) (joined (now (measure .entry))) (table (now (slots .entry))) (now (reading .entry)) k)) (Answer.Refused OutOfRange) ⌝ }
 {
     if den < MIN_DEN || num < den {

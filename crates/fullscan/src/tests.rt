@@ -58,7 +58,11 @@ fn ties_by_block(rt: LibcRuntime) -> Result<(), Fail> {
         A 255 2 0 0 0 0 0 0 0 0\n\
         A 254 3 1023 1023 1023 1023 1023 1023 1023 1023\n\
         Q 15 1 1 511 512 511 512 511 512 511 512\n";
-    check_script(&rt, text, "M\nA\nA\nA\nA\nA\nQ 1\nQ 1\nQ 1\nQ 1\nE 12\nA\nA\nQ 2\nA\nA\nA\nQ 4\nQ 0\nW\nQ 0\nA\nR\nA\nA\nA\nA\nQ 6\nQ 3\nW\nQ 3\nA\nQ 6\nA\nA\nQ 3\n")
+    check_script(
+        &rt,
+        text,
+        "M\nA\nA\nA\nA\nA\nQ 1\nQ 1\nQ 1\nQ 1\nE 12\nA\nA\nQ 2\nA\nA\nA\nQ 4\nQ 0\nW\nQ 0\nA\nR\nA\nA\nA\nA\nQ 6\nQ 3\nW\nQ 3\nA\nQ 6\nA\nA\nQ 3\n",
+    )
 }
 
 #[test]
@@ -96,7 +100,11 @@ fn ties_by_peak(rt: LibcRuntime) -> Result<(), Fail> {
         Q 3 1 1 0 0 0 0 0 0 700 700\n\
         A 50 4 0 0 0 0 0 0 700 710\n\
         Q 3 65535 1 0 0 0 0 0 0 700 700\n";
-    check_script(&rt, text, "M\nA\nA\nQ 2\nQ 2\nQ 5\nA\nA\nA\nQ 3\nQ 3\nQ 6\nW\nQ 6\nA\nR\nA\nA\nQ 0\nA\nA\nQ 3\nA\nA\nA\nA\nA\nQ 4\nQ 2\nW\nQ 2\nA\nQ 4\n")
+    check_script(
+        &rt,
+        text,
+        "M\nA\nA\nQ 2\nQ 2\nQ 5\nA\nA\nA\nQ 3\nQ 3\nQ 6\nW\nQ 6\nA\nR\nA\nA\nQ 0\nA\nA\nQ 3\nA\nA\nA\nA\nA\nQ 4\nQ 2\nW\nQ 2\nA\nQ 4\n",
+    )
 }
 
 #[test]
@@ -136,5 +144,9 @@ fn ties_by_damped(rt: LibcRuntime) -> Result<(), Fail> {
         Q 3 1 1 800 800 800 800 800 800 800 800\n\
         A 60 4 801 800 800 800 800 800 800 800\n\
         Q 3 2 1 800 800 800 800 800 800 800 800";
-    check_script(&rt, text, "M\nA\nA\nQ 5\nQ 2\nA\nA\nQ 6\nQ 1\nW\nQ 1\nA\nA\nA\nQ 0\nA\nA\nQ 7\nQ 3\nA\nA\nQ 6\nR\nA\nA\nA\nA\nA\nA\nQ 4\nQ 2\nW\nQ 2\nA\nQ 4\n")
+    check_script(
+        &rt,
+        text,
+        "M\nA\nA\nQ 5\nQ 2\nA\nA\nQ 6\nQ 1\nW\nQ 1\nA\nA\nA\nQ 0\nA\nA\nQ 7\nQ 3\nA\nA\nQ 6\nR\nA\nA\nA\nA\nA\nA\nQ 4\nQ 2\nW\nQ 2\nA\nQ 4\n",
+    )
 }

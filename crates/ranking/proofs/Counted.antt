@@ -1,10 +1,12 @@
 -- How counts compare when their tests do, slot by slot. Assumes nothing.
 use Prim.Native.Nat.{ℕ, zero, suc, _+_, _≤_, _<_}
 use mathlib.Core.Path.{_≡_, refl, ap}
+use mathlib.Core.Logic.{⊎-elim}
 use mathlib.Core.Bool.{Bool, true, false, _&&_}
 use native.Mathlib.Numerals.{add-one}
 use native.Mathlib.Omega.{arith}
 use lib.Dec.{eqb}
+use Rattle.std.proofs.shelf.Tests.{both-ways, cases-bool}
 use Rattle.std.proofs.shelf.Ways.{tells}
 use Rattle.ranking.specs.Counts.{bit, count}
 
@@ -75,6 +77,17 @@ count-none p (suc n) h =
     let e = h n (omega arith) in
     let i = count-none p n (λ s l. h s (omega arith)) in
     grind arith
+
+-- a slot that passes is counted
+pub count-some : (p : ℕ → Bool) (n s : ℕ) → s < n → p s ≡ true → 0 < count p n
+count-some p n s l h =
+    let none = count-none (λ _. false) n (λ _ _. refl) in
+    let more = count-less (λ _. false) p n s (λ t m e. absurd (both-ways false refl e)) l refl h in
+    omega arith
+
+pub none-counted : (p : ℕ → Bool) (n s : ℕ) → count p n ≡ 0 → s < n → p s ≡ false
+none-counted p n s e l =
+    ⊎-elim (λ h. absurd (omega (arith, count-some p n s l h))) (λ h. h) (cases-bool (p s))
 
 -- one slot alone
 pub count-at : (q : ℕ → Bool) (r n : ℕ) → r < n → count (λ s. eqb s r && q s) n ≡ bit (q r)

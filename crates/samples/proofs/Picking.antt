@@ -11,12 +11,12 @@ use Rattle.std.specs.Slices.{Shuffled}
 use Rattle.std.specs.shelf.Lists.{sumBy}
 use Rattle.std.proofs.shelf.Sums.{sumBy-cons}
 use Rattle.std.proofs.shelf.Sorted.{shuffled-sym}
-use Rattle.std.proofs.shelf.Tests.{cases-bool, both-ways, and-from}
+use Rattle.std.proofs.shelf.Tests.{cases-bool, and-from}
 use Rattle.std.proofs.shelf.Ways.{tells}
 use Rattle.heap.specs.Order.{Heaped}
 use Rattle.ranking.specs.Counts.{bit, count}
 use Rattle.ranking.specs.Ranks.{lower, nearer, rank, first}
-use Rattle.ranking.proofs.Counted.{count-ext, count-find, count-less, count-none}
+use Rattle.ranking.proofs.Counted.{count-ext, count-find, count-none, count-some}
 use Rattle.ranking.proofs.Picked.{rest, picked-rank, rest-picked}
 use Rattle.ranking.proofs.Ranked.{nearer-strict, at-rank}
 use Rattle.samples.specs.Candidates.{candidate, Holds, sooner}
@@ -31,13 +31,6 @@ sum-none q (x ∷ xs) h =
     let b = sum-none q xs (λ d k l. h d (suc k) (omega arith)) in
     let e = sumBy-cons (λ c. bit (q c)) x xs in
     let f : bit (q x) ≡ 0 = ap bit a in
-    omega arith
-
--- a slot that passes is counted
-some-counted : (p : ℕ → Bool) (s n : ℕ) → s < n → p s ≡ true → 0 < count p n
-some-counted p s n l h =
-    let none = count-none (λ _. false) n (λ _ _. refl) in
-    let a = count-less (λ _. false) p n s (λ t m e. absurd (both-ways false refl e)) l refl h in
     omega arith
 
 -- the same weight and the same slot
@@ -69,7 +62,7 @@ module _ (w : ℕ → ℕ) (p : ℕ → Bool) where
         let z = at-rank (nearer w) (nearer-strict w) p 256 i enough in
         let a = z .2 in
         let r = z .3 in
-        let c = some-counted (λ s. left i s && true) (z .0) 256 (z .1) (grind (arith, tells)) in
+        let c = count-some (λ s. left i s && true) 256 (z .0) (z .1) (grind (arith, tells)) in
         let h = holds (λ _. true) in
         let n : sumBy (λ c. bit true) xs ≡ 0 = ap (sumBy (λ c. bit true)) e in
         omega arith
@@ -99,7 +92,7 @@ module _ (w : ℕ → ℕ) (p : ℕ → Bool) where
         none-nearer t b a =
             let zero-sum = sum-none (λ c. sooner c x) xs none in
             let h = holds (λ c. sooner c x) in
-            let counted = some-counted (λ u. left i u && sooner (candidate w u) x) t 256 b in
+            let counted = count-some (λ u. left i u && sooner (candidate w u) x) 256 t b in
             let e : sooner (candidate w t) x ≡ lower (w t) t (w s) s = cc in
             ⊎-elim (λ y. absurd (omega (arith, counted (and-from _ _ a (e ∙ y))))) (λ y. y) (cases-bool (lower (w t) t (w s) s))
 

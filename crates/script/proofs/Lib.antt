@@ -1,3 +1,4 @@
+-- Lemmas on the readers. Assumes nothing.
 pub mod Gathered
 pub mod Numbered
 pub mod Opened

@@ -3,17 +3,17 @@ use mathlib.Core.Path.{_≡_, refl, sym, ap, _∙_}
 use mathlib.Core.Bool.{Bool, true, false, cond}
 use mathlib.Core.List.{List, [], _∷_}
 use mathlib.Core.Logic.{⊎-elim}
-use Prim.Native.Nat.{ℕ, zero, suc, min, _+_, _-_, _≤_, _<_}
+use Prim.Native.Nat.{ℕ, suc, min, _+_, _-_, _≤_, _<_}
 use native.Mathlib.Omega.{arith}
 use native.Mathlib.Numerals.{add-one}
 use lib.Dec.{eqb}
 use lib.ListN.{length, getD, take, drop}
-use Rattle.std.specs.declared.option.Option.the-variants.{Some, None}
+use Rattle.std.specs.declared.option.Option.the-variants.{None}
 use Rattle.std.proofs.shelf.Lists.{drop-more, drop-all, take-rest}
 use Rattle.std.proofs.shelf.Tests.{cond-true, cond-false, eq-eqb, ne-eqb, cases-lt}
-use Rattle.script.specs.Lines.{put-before, lines, words}
+use Rattle.script.specs.Lines.{put-before, lines, words-of}
 use Rattle.script.specs.Numbers.{number-of, both, numbers}
-use Rattle.script.specs.Steps.{until, behind}
+use Rattle.script.specs.Steps.{until, numbers-behind}
 
 -- The search for a mark, byte by byte.
 
@@ -29,39 +29,39 @@ until-none mark i bs h = ap (until mark) (drop-all i bs h)
 
 -- The words of a line, and the lines of a text, by their first mark.
 
--- the words behind the first
+-- The words behind the first.
 abbrev words-after : List ℕ → List (List ℕ)
 words-after [] = []
-words-after (b ∷ bs) = words bs
+words-after (b ∷ bs) = words-of bs
 
-words-parted : (bs : List ℕ) → words bs ≡ take (until 32 bs) bs ∷ words-after (drop (until 32 bs) bs)
+words-parted : (bs : List ℕ) → words-of bs ≡ take (until 32 bs) bs ∷ words-after (drop (until 32 bs) bs)
 words-parted [] = refl
 words-parted (b ∷ bs) =
-    elim (eqb b 32) as (λ t. put-before t b (words bs) ≡ take (cond t 0 (suc (until 32 bs))) (b ∷ bs) ∷ words-after (drop (cond t 0 (suc (until 32 bs))) (b ∷ bs))) [
+    elim (eqb b 32) as (λ t. put-before t b (words-of bs) ≡ take (cond t 0 (suc (until 32 bs))) (b ∷ bs) ∷ words-after (drop (cond t 0 (suc (until 32 bs))) (b ∷ bs))) [
       | true ↦ refl
       | false ↦ ap (put-before false b) (words-parted bs)
     ]
 
-behind-after : (n : ℕ) (bs : List ℕ) → numbers n (words-after (drop (until 32 bs) bs)) ≡ behind n (drop (until 32 bs) bs)
-unfolding behind
+behind-after : (n : ℕ) (bs : List ℕ) → numbers n (words-after (drop (until 32 bs) bs)) ≡ numbers-behind n (drop (until 32 bs) bs)
+unfolding numbers-behind
 behind-after n [] = refl
 behind-after n (b ∷ bs) = go (eqb b 32) refl (behind-after n bs)
   where
-    go : (t : Bool) → eqb b 32 ≡ t → numbers n (words-after (drop (until 32 bs) bs)) ≡ behind n (drop (until 32 bs) bs) → numbers n (words-after (drop (cond t 0 (suc (until 32 bs))) (b ∷ bs))) ≡ behind n (drop (cond t 0 (suc (until 32 bs))) (b ∷ bs))
+    go : (t : Bool) → eqb b 32 ≡ t → numbers n (words-after (drop (until 32 bs) bs)) ≡ numbers-behind n (drop (until 32 bs) bs) → numbers n (words-after (drop (cond t 0 (suc (until 32 bs))) (b ∷ bs))) ≡ numbers-behind n (drop (cond t 0 (suc (until 32 bs))) (b ∷ bs))
     go true e h = sym (cond-true (eqb b 32) _ _ e)
     go false e h = h
 
-further : (b : ℕ) (bs : List ℕ) → lines bs ≡ take (until 10 bs) bs ∷ lines (drop (suc (until 10 bs)) bs) → lines (b ∷ bs) ≡ take (until 10 (b ∷ bs)) (b ∷ bs) ∷ lines (drop (suc (until 10 (b ∷ bs))) (b ∷ bs))
-further b bs e =
+lines-parted-cons : (b : ℕ) (bs : List ℕ) → lines bs ≡ take (until 10 bs) bs ∷ lines (drop (suc (until 10 bs)) bs) → lines (b ∷ bs) ≡ take (until 10 (b ∷ bs)) (b ∷ bs) ∷ lines (drop (suc (until 10 (b ∷ bs))) (b ∷ bs))
+lines-parted-cons b bs e =
     elim (eqb b 10) as (λ t. put-before t b (lines bs) ≡ take (cond t 0 (suc (until 10 bs))) (b ∷ bs) ∷ lines (drop (cond t 0 (suc (until 10 bs))) bs)) [
       | true ↦ refl
       | false ↦ ap (put-before false b) e
     ]
 
-pub lines-parted : (b : ℕ) (bs : List ℕ) → lines (b ∷ bs) ≡ take (until 10 (b ∷ bs)) (b ∷ bs) ∷ lines (drop (suc (until 10 (b ∷ bs))) (b ∷ bs))
+lines-parted : (b : ℕ) (bs : List ℕ) → lines (b ∷ bs) ≡ take (until 10 (b ∷ bs)) (b ∷ bs) ∷ lines (drop (suc (until 10 (b ∷ bs))) (b ∷ bs))
 lines-parted b [] =
     elim (eqb b 10) as (λ t. put-before t b [] ≡ take (cond t 0 1) (b ∷ []) ∷ lines (drop (cond t 0 1) [])) [ true ↦ refl | false ↦ refl ]
-lines-parted b (c ∷ bs) = further b (c ∷ bs) (lines-parted c bs)
+lines-parted b (c ∷ bs) = lines-parted-cons b (c ∷ bs) (lines-parted c bs)
 
 lines-first : (text : List ℕ) → 0 < length text → lines text ≡ take (until 10 text) text ∷ lines (drop (suc (until 10 text)) text)
 lines-first [] h = absurd (omega arith)
@@ -82,23 +82,33 @@ lines-next text end next some here there =
     let same = drop-min (end + 1) text in
     cc
 
+-- A text has no more lines than bytes.
+pub length-lines : (text : List ℕ) → length (lines text) ≤ length text
+length-lines [] = omega arith
+length-lines (b ∷ bs) = let before = length-lines bs in let one = length-put-before (eqb b 10) b (lines bs) in omega arith
+  where
+    length-put-before : (t : Bool) (b : ℕ) (ls : List (List ℕ)) → length (put-before t b ls) ≤ suc (length ls)
+    length-put-before true b ls = omega arith
+    length-put-before false b [] = omega arith
+    length-put-before false b (l ∷ ls) = omega arith
+
 -- The numbers behind the words read so far.
 
-pub behind-next : (n : ℕ) (bs : List ℕ) → behind (suc n) (32 ∷ bs) ≡ both (number-of (take (until 32 bs) bs)) (behind n (drop (until 32 bs) bs))
-unfolding behind
+pub behind-next : (n : ℕ) (bs : List ℕ) → numbers-behind (suc n) (32 ∷ bs) ≡ both (number-of (take (until 32 bs) bs)) (numbers-behind n (drop (until 32 bs) bs))
+unfolding numbers-behind
 behind-next n bs = ap (numbers (suc n)) (words-parted bs) ∙ ap (both (number-of (take (until 32 bs) bs))) (behind-after n bs)
 
-pub behind-other : (n b : ℕ) (bs : List ℕ) → (b ≡ 32 → ⊥) → behind n (b ∷ bs) ≡ None
-unfolding behind
+pub behind-other : (n b : ℕ) (bs : List ℕ) → (b ≡ 32 → ⊥) → numbers-behind n (b ∷ bs) ≡ None
+unfolding numbers-behind
 behind-other n b bs h = cond-false (eqb b 32) _ _ (ne-eqb b 32 h)
 
-pub behind-none : (n : ℕ) (bs : List ℕ) → length bs ≡ 0 → behind n bs ≡ numbers n []
-unfolding behind
+pub behind-none : (n : ℕ) (bs : List ℕ) → length bs ≡ 0 → numbers-behind n bs ≡ numbers n []
+unfolding numbers-behind
 behind-none n [] h = refl
 behind-none n (b ∷ bs) h = absurd (omega arith)
 
 -- Where something is left, there is a word too many, or no space.
-pub behind-ended : (bs : List ℕ) → 0 < length bs → behind 0 bs ≡ None
-unfolding behind
+pub behind-ended : (bs : List ℕ) → 0 < length bs → numbers-behind 0 bs ≡ None
+unfolding numbers-behind
 behind-ended [] h = absurd (omega arith)
-behind-ended (b ∷ bs) h = elim (eqb b 32) as (λ t. cond t (numbers 0 (words bs)) None ≡ None) [ true ↦ ap (numbers 0) (words-parted bs) | false ↦ refl ]
+behind-ended (b ∷ bs) h = elim (eqb b 32) as (λ t. cond t (numbers 0 (words-of bs)) None ≡ None) [ true ↦ ap (numbers 0) (words-parted bs) | false ↦ refl ]

@@ -8,7 +8,7 @@ use Rattle.std.specs.declared.option.Option.{Option}
 use Rattle.std.specs.declared.option.Option.the-variants.{Some, None}
 use Rattle.std.specs.declared.result.Result.{Result}
 use Rattle.std.specs.declared.result.Result.the-variants.{Ok, Err}
-use Rattle.script.specs.Lines.{words}
+use Rattle.script.specs.Lines.{words-of}
 use Rattle.script.specs.Numbers.{numbers}
 use Rattle.script.specs.declared.Command.{Command}
 use Rattle.script.specs.declared.Command.the-variants.{Admit, Withdraw, Rebuild, Query}
@@ -20,10 +20,10 @@ abbrev pub refused : {X : Type 0} → Result X Unreadable
 refused = Err (record {})
 
 -- The letter that a word is; 0 is none.
-abbrev pub letter : List ℕ → ℕ
-letter [] = 0
-letter (c ∷ []) = c
-letter (c ∷ b ∷ bs) = 0
+abbrev pub letter-of : List ℕ → ℕ
+letter-of [] = 0
+letter-of (c ∷ []) = c
+letter-of (c ∷ b ∷ bs) = 0
 
 abbrev pub admit-of : Option (List ℕ) → Result Command Unreadable
 admit-of None = refused
@@ -57,17 +57,17 @@ commanded c its =
     (cond (eqb c 82) (rebuild-of (its 0))
     (cond (eqb c 81) (query-of (its 11)) refused)))
 
--- M
+-- M, with one number.
 abbrev pub measured : ℕ → (ℕ → Option (List ℕ)) → Result MeasureKind Unreadable
 measured c its = cond (eqb c 77) (kind-of (its 1)) refused
 
 -- What the words of a line say: the first is a letter, and the others are its numbers.
 abbrev pub said : {X : Type 0} → (ℕ → (ℕ → Option (List ℕ)) → Result X Unreadable) → List (List ℕ) → Result X Unreadable
 said meant [] = refused
-said meant (w ∷ ws) = meant (letter w) (λ n. numbers n ws)
+said meant (w ∷ ws) = meant (letter-of w) (λ n. numbers n ws)
 
 unfoldable pub command-of : List ℕ → Result Command Unreadable
-command-of line = said commanded (words line)
+command-of line = said commanded (words-of line)
 
 unfoldable pub measure-of : List ℕ → Result MeasureKind Unreadable
-measure-of line = said measured (words line)
+measure-of line = said measured (words-of line)

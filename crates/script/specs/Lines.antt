@@ -17,6 +17,6 @@ lines [] = []
 lines (b ∷ bs) = put-before (eqb b 10) b (lines bs)
 
 -- A space parts two words, so a space too many leaves an empty word.
-abbrev pub words : List ℕ → List (List ℕ)
-words [] = [] ∷ []
-words (b ∷ bs) = put-before (eqb b 32) b (words bs)
+abbrev pub words-of : List ℕ → List (List ℕ)
+words-of [] = [] ∷ []
+words-of (b ∷ bs) = put-before (eqb b 32) b (words-of bs)

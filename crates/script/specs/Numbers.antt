@@ -1,5 +1,5 @@
 -- The numbers that words write. Assumes nothing.
-use mathlib.Core.Bool.{Bool, true, false, cond, _&&_}
+use mathlib.Core.Bool.{Bool, true, cond, _&&_}
 use mathlib.Core.List.{List, [], _∷_}
 use Prim.Native.Nat.{ℕ, zero, suc, _+_, _-_, _*_}
 use lib.Dec.{leb}
@@ -12,7 +12,7 @@ abbrev pub all-digits : List ℕ → Bool
 all-digits [] = true
 all-digits (b ∷ bs) = asciiDigit b && all-digits bs
 
--- the digits of v, and then those of the word, in base ten
+-- The digits of v and then those of the word, in base ten.
 abbrev pub decimal : ℕ → List ℕ → ℕ
 decimal v [] = v
 decimal v (b ∷ bs) = decimal (10 * v + (b - 48)) bs
@@ -24,6 +24,7 @@ is-number w = leb 1 (length w) && (leb (length w) 5 && (all-digits w && leb (dec
 unfoldable pub number-of : List ℕ → Option ℕ
 number-of w = cond (is-number w) (Some (decimal 0 w)) None
 
+-- A number in front of others, where it is one and so are they.
 abbrev pub both : Option ℕ → Option (List ℕ) → Option (List ℕ)
 both None vs = None
 both (Some v) None = None

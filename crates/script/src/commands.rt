@@ -1,7 +1,7 @@
 // What one line of a script says.
 ghost use mathlib.Core.Path.{_≡_};
 ghost use Rattle.script.specs.Commands.{admit-of, command-of, commanded, kind-of, measure-of, measured, query-of, rebuild-of, withdraw-of};
-ghost use Rattle.script.specs.Steps.{behind, words-left};
+ghost use Rattle.script.specs.Steps.{numbers-left};
 use crate::Command;
 use crate::MeasureKind;
 use crate::Unreadable;
@@ -27,8 +27,9 @@ pub fn parse_command(line: &[u8]) -> Result<Command, Unreadable>
     command_by_letter(*letter as char, Words::behind(rest))
 }
 
+// What the letter of a first line says with the words behind it.
 fn measure_by_letter(letter: char, words: Words) -> Result<MeasureKind, Unreadable>
-    ensures { λ r. ⌜ r ≡ measured letter (λ n. behind n (words-left (words .entry))) ⌝ }
+    ensures { λ r. ⌜ r ≡ measured letter (numbers-left (words .entry)) ⌝ }
 {
     match letter {
         'M' => kind(words),
@@ -37,7 +38,7 @@ fn measure_by_letter(letter: char, words: Words) -> Result<MeasureKind, Unreadab
 }
 
 fn kind(mut words: Words) -> Result<MeasureKind, Unreadable>
-    ensures { λ r. ⌜ r ≡ kind-of (behind 1 (words-left (words .entry))) ⌝ }
+    ensures { λ r. ⌜ r ≡ kind-of (numbers-left (words .entry) 1) ⌝ }
 {
     let number = words.next_number()?;
     words.end()?;
@@ -50,8 +51,9 @@ fn kind(mut words: Words) -> Result<MeasureKind, Unreadable>
     }
 }
 
+// What the letter of a later line says with the words behind it.
 fn command_by_letter(letter: char, words: Words) -> Result<Command, Unreadable>
-    ensures { λ r. ⌜ r ≡ commanded letter (λ n. behind n (words-left (words .entry))) ⌝ }
+    ensures { λ r. ⌜ r ≡ commanded letter (numbers-left (words .entry)) ⌝ }
 {
     match letter {
         'A' => admit(words),
@@ -63,7 +65,7 @@ fn command_by_letter(letter: char, words: Words) -> Result<Command, Unreadable>
 }
 
 fn admit(mut words: Words) -> Result<Command, Unreadable>
-    ensures { λ r. ⌜ r ≡ admit-of (behind 10 (words-left (words .entry))) ⌝ }
+    ensures { λ r. ⌜ r ≡ admit-of (numbers-left (words .entry) 10) ⌝ }
 {
     let slot = words.next_number()?;
     let fibre = words.next_number()?;
@@ -77,7 +79,7 @@ fn admit(mut words: Words) -> Result<Command, Unreadable>
 }
 
 fn withdraw(mut words: Words) -> Result<Command, Unreadable>
-    ensures { λ r. ⌜ r ≡ withdraw-of (behind 1 (words-left (words .entry))) ⌝ }
+    ensures { λ r. ⌜ r ≡ withdraw-of (numbers-left (words .entry) 1) ⌝ }
 {
     let slot = words.next_number()?;
     words.end()?;
@@ -85,14 +87,14 @@ fn withdraw(mut words: Words) -> Result<Command, Unreadable>
 }
 
 fn rebuild(words: Words) -> Result<Command, Unreadable>
-    ensures { λ r. ⌜ r ≡ rebuild-of (behind 0 (words-left (words .entry))) ⌝ }
+    ensures { λ r. ⌜ r ≡ rebuild-of (numbers-left (words .entry) 0) ⌝ }
 {
     words.end()?;
     Ok(Command::Rebuild)
 }
 
 fn query(mut words: Words) -> Result<Command, Unreadable>
-    ensures { λ r. ⌜ r ≡ query-of (behind 11 (words-left (words .entry))) ⌝ }
+    ensures { λ r. ⌜ r ≡ query-of (numbers-left (words .entry) 11) ⌝ }
 {
     let k = words.next_number()?;
     let num = words.next_number()?;

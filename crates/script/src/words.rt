@@ -4,14 +4,16 @@ ghost use Prim.Native.Nat.{_≤_};
 ghost use lib.ListN.{length};
 ghost use Rattle.std.specs.Results.{okPart};
 ghost use Rattle.script.specs.Numbers.{number-of};
-ghost use Rattle.script.specs.Steps.{until, words-left, Next, NextValues, Ended};
-use crate::BANDS;
+ghost use Rattle.script.specs.Steps.{Ended, NextNumber, NextValues, until, words-left};
 use crate::Unreadable;
+use measure::BANDS;
 
-pub const SPACE: u8 = b' ';
+const SPACE: u8 = b' ';
 
+// A number has at most so many digits.
 const MAX_DIGITS: usize = 5;
 
+// A number is at most so large.
 const MAX_NUMBER: u32 = 65535;
 
 // The part of a line that stands behind the words read so far.
@@ -29,7 +31,7 @@ impl<'a> Words<'a> {
 
     // The number that the next word writes, which stands behind one space.
     pub fn next_number(&mut self) -> Result<u16, Unreadable>
-        ensures { λ r. ⌜ Next (words-left (now (self .entry))) r (words-left (now (self .exit))) ⌝ }
+        ensures { λ r. ⌜ NextNumber (now (self .entry)) r (now (self .exit)) ⌝ }
     {
         let Some((first, behind)) = self.rest.split_first() else {
             return Err(Unreadable);
@@ -44,7 +46,7 @@ impl<'a> Words<'a> {
 
     // The numbers that the next words write, one for each band.
     pub fn next_values(&mut self) -> Result<[u16; BANDS], Unreadable>
-        ensures { λ r. ⌜ NextValues (words-left (now (self .entry))) r (words-left (now (self .exit))) ⌝ }
+        ensures { λ r. ⌜ NextValues (now (self .entry)) r (now (self .exit)) ⌝ }
     {
         let mut values = [0; BANDS];
         for value in values.iter_mut() {
@@ -55,7 +57,7 @@ impl<'a> Words<'a> {
 
     // Refuses a line that goes on behind its last word.
     pub fn end(&self) -> Result<(), Unreadable>
-        ensures { λ r. ⌜ Ended (words-left (now (self .entry))) r ⌝ }
+        ensures { λ r. ⌜ Ended (now (self .entry)) r ⌝ }
     {
         if self.rest.is_empty() {
             Ok(())

@@ -1,4 +1,4 @@
-use mathlib.Core.Path.{_≡_, sym, ap, _∙_}
+use mathlib.Core.Path.{sym, ap, _∙_}
 use mathlib.Core.List.{_∷_, map}
 use Rattle.script.specs.Commands.{command-of}
 use Rattle.script.specs.Scripts.{commands, text-left}

@@ -1,8 +1,8 @@
 use mathlib.Core.Path.{refl, sym}
 use native.Mathlib.Omega.{arith}
 use Prim.Native.Nat.{_-_}
-use lib.ListN.{length, length-take, length-drop, take, drop}
-use Rattle.std.proofs.shelf.Lists.{nil-from-length, take-rest}
+use lib.ListN.{length, length-take, length-drop, drop}
+use Rattle.std.proofs.shelf.Lists.{nil-from-length}
 use Rattle.std.proofs.shelf.Tests.{eqb-true, eqb-false}
 use Rattle.script.proofs.Parted.{lines-next}
 use Rattle.script.proofs.Script.«take_line».Needs as need
@@ -19,6 +19,6 @@ returns c =
     let next = c .min-next .result in
     let cut = length-take (length text - next) (drop next text) in
     let left = length-drop next text in (
-      lines-next text (c .find-end .result) next (omega arith) (c .find-end .ensures .value) (c .min-next .ensures),
+      lines-next text (c .find-end .result) next (omega arith) (omega (arith, c .find-end .ensures .value)) (omega (arith, c .min-next .ensures)),
       omega (arith, c .min-next .ensures),
     )

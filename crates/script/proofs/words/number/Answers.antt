@@ -1,8 +1,8 @@
 use mathlib.Core.Path.{_≡_, sym, ap, _∙_}
 use mathlib.Core.Bool.{true, false}
-use Prim.Native.Nat.{_+_, _*_, _≤_}
+use Prim.Native.Nat.{_+_, _*_}
 use native.Mathlib.Omega.{arith}
-use lib.ListN.{getD, drop, length}
+use lib.ListN.{getD, drop}
 use Rattle.std.proofs.shelf.Ways.{tells}
 use Rattle.std.specs.Text.{asciiDigit}
 use Rattle.script.specs.Numbers.{all-digits, decimal, is-number, number-of}

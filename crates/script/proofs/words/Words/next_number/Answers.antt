@@ -1,8 +1,7 @@
-use mathlib.Core.Path.{_≡_, sym, ap, _∙_}
-use mathlib.Core.List.{_∷_}
+use mathlib.Core.Path.{ap, _∙_}
+use native.Mathlib.Omega.{arith}
 use Prim.Native.Nat.{suc}
-use Rattle.script.specs.Numbers.{both, number-of}
-use Rattle.script.specs.Steps.{behind}
+use Rattle.script.specs.Steps.{numbers-behind}
 use Rattle.script.proofs.Parted.{behind-next, behind-other, behind-none}
 use Rattle.script.proofs.words.Words.«next_number».Needs as need
 
@@ -11,7 +10,7 @@ returns-in-rest c = λ n. behind-none (suc n) (c .args .self .now .rest .now) (c
 
 pub returns-then-first-ne-SPACE : need.returns-then-first-ne-SPACE
 returns-then-first-ne-SPACE c =
-    λ n. ap (behind (suc n)) (c .in-Some .ensures tt .cases .0) ∙ behind-other (suc n) (c .in-Some .first .now) (c .in-Some .behind .now) (c .if-first-ne-SPACE .taken)
+    λ n. ap (numbers-behind (suc n)) (c .in-Some .ensures tt .cases .0) ∙ behind-other (suc n) (c .in-Some .first .now) (c .in-Some .behind .now) (λ e. omega arith)
 
 pub returns : need.returns
 returns c =
