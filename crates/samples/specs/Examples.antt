@@ -22,7 +22,7 @@ abbrev sample : ℕ → ℕ → ℕ → Option Point
 sample f x y = Some (record { fibre = f; values = pair x y })
 
 -- slots 0 to 4 at band 0 = 10, 12, 600, 610 and 14, of fibres 1, 1, 2, 2 and 3
-abbrev five : Table
+abbrev pub five : Table
 five = (sample 1 10 0 ∷ sample 1 12 0 ∷ sample 2 600 0 ∷ sample 2 610 0 ∷ sample 3 14 0 ∷ []) ++ replicate 251 None
 
 abbrev two : Table
@@ -40,8 +40,8 @@ damped b g = root (1024 * min g 1023)
 
 -- of five against 13: slots 1 and 4 weigh 1, the lower slot is nearer; votes that tie go to the lower code
 -- of two against 100, 100: what each measure weighs, and prints
-abbrev pub Examples : Type 0
-Examples =
+abbrev pub Verdicts : Type 0
+Verdicts =
     (weight-at gap held-sum five (pair 13 0) 1 ≡ 1)
     × (weight-at gap held-sum five (pair 13 0) 4 ≡ 1)
     × (verdict-rule gap held-sum five (pair 13 0) 1 ≡ Ok 1)

@@ -1,12 +1,10 @@
 // Samples in 256 slots, and the exact verdict over them.
 mod candidate;
-mod examples;
 mod refusal;
 mod sample;
 mod slots;
 mod verdict;
 
-pub use examples::examples_hold;
 pub use refusal::Refusal;
 pub use refusal::RefusalDebug;
 pub use refusal::RefusalPartialEq;

@@ -1,5 +1,5 @@
 // The worked examples, as one statement about the definitions.
-ghost use Rattle.samples.specs.Examples.{Examples};
+ghost use Rattle.field.specs.Examples.{Examples};
 
 // Holds no code: its contract is the statement.
 pub fn examples_hold() -> u8
