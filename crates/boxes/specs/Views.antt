@@ -11,9 +11,9 @@ use mathlib.Core.List.{List, []}
 use Prim.Native.Nat.{ℕ, _+_}
 use lib.ListN.{getD}
 use Rattle.ranking.specs.Counts.{bit}
-use Rattle.trees.specs.Boxes.{Box, halved, side, covers, lower, upper}
+use Rattle.trees.specs.Boxes.{Box, halved, side, covers, lower, upper, on-grid}
 use Rattle.trees.specs.Trees as trees
-use Rattle.boxes.specs.Grids.{on-grid}
+use Rattle.boxes.specs.Grids.{gridded}
 use Rattle.boxes.specs.declared.bounds.Bounds.{Bounds}
 use Rattle.boxes.specs.declared.node.Kind.{Kind}
 use Rattle.boxes.specs.declared.node.Kind.the-variants.{Leaf, Split, Shrink}
@@ -39,7 +39,7 @@ abbrev pub node-of : Node → trees.Node
 node-of n = record { kind = kind-of (n .kind); box = box-of (n .bounds); first = n .first; second = n .second }
 
 -- a list has this leaf past its end
-pub blank-on-grid : on-grid 0 [] ≡ true
+pub blank-on-grid : gridded 0 [] ≡ true
 unfolding on-grid side halved
 blank-on-grid = refl
 

@@ -2,7 +2,7 @@
 ghost use mathlib.Core.Path.{_≡_};
 ghost use mathlib.Core.Bool.{true};
 ghost use Prim.Native.Nat.{_≤_};
-ghost use Rattle.boxes.specs.Grids.{on-grid};
+ghost use Rattle.boxes.specs.Grids.{gridded};
 use measure::BANDS;
 
 mod methods;
@@ -14,7 +14,7 @@ pub const MAX_DEPTH: u8 = 80;
 pub struct Bounds {
     depth: u8,
     corner: [u16; BANDS],
-    ghost on_grid: { on-grid depth corner ≡ true },
+    ghost on_grid: { gridded depth corner ≡ true },
 }
 
 impl Bounds {

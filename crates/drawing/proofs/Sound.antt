@@ -46,7 +46,3 @@ unfolding lodged
 lodged-everything xs s l =
     let c : held (table xs) s ≡ true → covers everything (held-in xs .value s) ≡ true = λ h. everything-covers (held-in xs) (valid-samples xs) s l h in
     grind arith
-
-pub isSome-mapped : {X Y : Type 0} (f : X → Y) (o : Option X) → isSome (mapped f o) ≡ isSome o
-isSome-mapped f None = refl
-isSome-mapped f (Some x) = refl

@@ -32,7 +32,7 @@ module _ {X Y : Type 0} (f : X → Y) where
   set-map (y ∷ xs) zero x = refl
   set-map (y ∷ xs) (suc i) x = ap (λ l. f y ∷ l) (set-map xs i x)
 
-isSome-mapped : {X Y : Type 0} (f : X → Y) (o : Option X) → isSome (mapped f o) ≡ isSome o
+pub isSome-mapped : {X Y : Type 0} (f : X → Y) (o : Option X) → isSome (mapped f o) ≡ isSome o
 isSome-mapped f None = refl
 isSome-mapped f (Some x) = refl
 

@@ -7,8 +7,8 @@ use lib.Dec.{ltb, leb, eqb}
 use Rattle.std.proofs.shelf.Tests.{and-parts, and-from, eqb-true, eq-eqb, ltb-true, lt-ltb, leb-true, le-leb, both-ways}
 use Rattle.std.proofs.shelf.Ways.{tells}
 use Rattle.ranking.specs.Counts.{count}
-use Rattle.trees.specs.Boxes.{every, side, Box, lower, upper, Alike, Inside}
-use Rattle.trees.specs.Lawful.{alike, within, inside, aligned, on-grid, childless, whole, sound, linked, is-leaf, nested, nested-by, lawful, counted, right}
+use Rattle.trees.specs.Boxes.{every, side, Box, lower, upper, Alike, Inside, on-step, on-grid}
+use Rattle.trees.specs.Lawful.{alike, within, inside, childless, whole, sound, linked, is-leaf, nested, nested-by, lawful, counted, right}
 use Rattle.trees.specs.Samples.{Samples, lies, Right}
 use Rattle.trees.specs.Trees.{Kind, leaf, split, shrink, Node, parts, names, Rules}
 use Rattle.trees.proofs.Boxed.{every-at, every-all}
@@ -48,11 +48,11 @@ module _ (node : ℕ → Node) where
   unfolding on-grid
   grid-says k h =
       let p = and-parts _ _ h in
-      (leb-true _ _ (p .0), λ b l. let q = and-parts _ _ (every-at (aligned k) 8 b (p .1) l) in (ltb-true _ _ (q .0), eqb-true _ _ (q .1)))
+      (leb-true _ _ (p .0), λ b l. let q = and-parts _ _ (every-at (λ b. on-step (k .depth) b (k .corner b)) 8 b (p .1) l) in (ltb-true _ _ (q .0), eqb-true _ _ (q .1)))
 
   grid-from : (k : Box) → k .depth ≤ 80 → ((b : ℕ) → b < 8 → (k .corner b < 1024) × (k .corner b % side (k .depth) b ≡ 0)) → on-grid k ≡ true
   unfolding on-grid
-  grid-from k d c = and-from _ _ (le-leb _ _ d) (every-all (aligned k) 8 (λ b l. and-from _ _ (lt-ltb _ _ (c b l .0)) (eq-eqb _ _ (c b l .1))))
+  grid-from k d c = and-from _ _ (le-leb _ _ d) (every-all (λ b. on-step (k .depth) b (k .corner b)) 8 (λ b l. and-from _ _ (lt-ltb _ _ (c b l .0)) (eq-eqb _ _ (c b l .1))))
 
   whole-says : (k : Box) → whole k ≡ true → (k .depth ≡ 0) × ((b : ℕ) → b < 8 → k .corner b ≡ 0)
   whole-says k h = let p = and-parts _ _ h in (eqb-true _ _ (p .0), λ b l. eqb-true _ _ (every-at (λ b. eqb (k .corner b) 0) 8 b (p .1) l))

@@ -6,9 +6,10 @@
 --   covers k v    it covers the values v in all eight bands
 --   cut t         the band that halving a box of depth t cuts
 --   lower, upper  the two halves of a box
---   within j k    the box j lies in the box k
---   Inside j k    it lies in it and is deeper
---   Grid k        the depth is at most 80, and each corner a multiple of the side, below 1024
+--   Alike j k     two boxes of the same depth and corner
+--   Inside j k    the box j lies in the box k and is deeper
+--   on-grid k     the depth is at most 80, and each corner below 1024 and a multiple of the side
+--   Grid k        the same, with what the box covers below 1024
 use Prim.Native.Nat.{ℕ, zero, suc, _+_, _-_, _*_, _/_, _%_, _^_, _≤_, _<_}
 use mathlib.Core.Path.{_≡_}
 use mathlib.Core.Bool.{Bool, true, false, _&&_, cond}
@@ -53,6 +54,13 @@ Inside j k = (k .depth < j .depth) × ((b : ℕ) → b < 8 → (k .corner b ≤ 
 
 abbrev pub Grid : Box → Type 0
 Grid k = (k .depth ≤ 80) × ((b : ℕ) → b < 8 → (k .corner b + side (k .depth) b ≤ 1024) × (k .corner b % side (k .depth) b ≡ 0))
+
+-- a box of depth t may begin at the value x in band b
+abbrev pub on-step : ℕ → ℕ → ℕ → Bool
+on-step t b x = ltb x 1024 && eqb (x % side t b) 0
+
+unfoldable pub on-grid : Box → Bool
+on-grid k = leb (k .depth) 80 && every (λ b. on-step (k .depth) b (k .corner b)) 8
 
 -- the box of all readings
 abbrev pub everything : Box

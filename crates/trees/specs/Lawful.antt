@@ -5,11 +5,11 @@
 --   nested node x       the boxes of its children, and the kind of a rim
 --   lawful m node       all m nodes are sound, linked and nested
 --   counted, right      the counts of node x, and of all nodes, are those of the samples
-use Prim.Native.Nat.{ℕ, _+_, _%_}
+use Prim.Native.Nat.{ℕ, _+_}
 use mathlib.Core.Bool.{Bool, true, false, not, _&&_, _||_}
 use lib.Dec.{ltb, leb, eqb}
 use Rattle.ranking.specs.Counts.{count}
-use Rattle.trees.specs.Boxes.{every, side, Box, lower, upper}
+use Rattle.trees.specs.Boxes.{every, side, Box, lower, upper, on-grid}
 use Rattle.trees.specs.Samples.{Samples, lies}
 use Rattle.trees.specs.Trees.{Kind, leaf, split, shrink, Node, parts, names}
 
@@ -22,13 +22,6 @@ within j k b = leb (k .corner b) (j .corner b) && leb (j .corner b + side (j .de
 
 unfoldable pub inside : Box → Box → Bool
 inside j k = ltb (k .depth) (j .depth) && every (within j k) 8
-
--- in band b the corner is below 1024 and a multiple of the side
-abbrev pub aligned : Box → ℕ → Bool
-aligned k b = ltb (k .corner b) 1024 && eqb (k .corner b % side (k .depth) b) 0
-
-unfoldable pub on-grid : Box → Bool
-on-grid k = leb (k .depth) 80 && every (aligned k) 8
 
 abbrev pub childless : Node → Bool
 childless x = parts (x .kind) || (eqb (x .first) 0 && eqb (x .second) 0)

@@ -7,8 +7,8 @@ ghost use lib.ListN.{getD};
 ghost use Rattle.std.specs.Options.{isSome};
 ghost use Rattle.std.specs.Orderings.{Decides};
 ghost use Rattle.std.specs.Slices.{found};
-ghost use Rattle.trees.specs.Boxes.{side, spans, covers, lower, upper, Inside, everything};
-ghost use Rattle.boxes.specs.Grids.{on-grid, on-step};
+ghost use Rattle.trees.specs.Boxes.{side, spans, covers, lower, upper, Inside, everything, on-step};
+ghost use Rattle.boxes.specs.Grids.{gridded};
 ghost use Rattle.boxes.specs.Views.{box-of, entries, Halved};
 use super::Bounds;
 use super::MAX_DEPTH;
@@ -20,7 +20,7 @@ const VALUES: u16 = 1024;
 impl Bounds {
     // The box of this depth and corner, if it is on the grid.
     pub fn new(depth: u8, corner: &[u16; BANDS]) -> Option<Bounds>
-        ensures test { λ r. ⌜ isSome r ≡ on-grid depth (now (corner .entry)) ⌝ }
+        ensures test { λ r. ⌜ isSome r ≡ gridded depth (now (corner .entry)) ⌝ }
         ensures value { λ r. ⌜ found r (λ x. (x .depth ≡ depth) × (x .corner ≡ now (corner .entry))) ⌝ }
     {
         if depth > MAX_DEPTH {

@@ -12,7 +12,8 @@ use Rattle.trees.specs.Drawing.{lodged}
 use Rattle.drawing.specs.Held.{samples-of, held-in}
 use Rattle.drawing.specs.Runs.{Holds}
 use Rattle.drawing.proofs.Running.{holds-none, holds-skip, holds-push}
-use Rattle.drawing.proofs.Sound.{lodged-everything, isSome-mapped}
+use Rattle.samples.proofs.Tabled.{isSome-mapped}
+use Rattle.drawing.proofs.Sound.{lodged-everything}
 use Rattle.drawing.proofs.runs.gather.Needs as need
 use Rattle.drawing.proofs.runs.gather.Needs.{then-is-some, else-is-some}
 

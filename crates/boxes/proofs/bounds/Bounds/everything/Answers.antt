@@ -1,6 +1,5 @@
 use mathlib.Core.Path.{refl}
-use Rattle.trees.specs.Boxes.{side, halved}
-use Rattle.boxes.specs.Grids.{on-grid}
+use Rattle.trees.specs.Boxes.{side, halved, on-grid}
 use Rattle.boxes.proofs.Viewed.{zeros-box}
 use Rattle.boxes.proofs.bounds.Bounds.everything.Needs as need
 

@@ -2,7 +2,7 @@ use mathlib.Core.Path.{_≡_}
 use mathlib.Core.Bool.{true}
 use Prim.Native.Nat.{ℕ, _<_}
 use lib.ListN.{getD}
-use Rattle.boxes.specs.Grids.{on-step}
+use Rattle.trees.specs.Boxes.{on-step}
 use Rattle.boxes.proofs.bounds.Bounds.new.Given as given
 
 abbrev pub Inv-loop-band : given.InvT-loop-band

@@ -5,7 +5,7 @@ use native.Mathlib.Omega.{arith}
 use borrow.Author.Count.{below-more}
 use lib.ListN.{length, length-set}
 use lib.Seq.{getD-set-same, getD-set-other}
-use Rattle.boxes.proofs.Gridded.{grid-of, side-deepest}
+use Rattle.boxes.proofs.Gridded.{grid-of, deepest-side}
 use Rattle.boxes.proofs.bounds.Bounds.sides.Needs as need
 
 pub side-at-requires : need.side-at-requires
@@ -24,5 +24,5 @@ returns c =
     let all = c .loop-band .inv .1 in
     record {
       value = λ b l. all b (omega arith);
-      deepest = λ e b l. all b (omega arith) ∙ side-deepest (c .args .self .now .depth) b e l;
+      deepest = λ e b l. all b (omega arith) ∙ deepest-side (c .args .self .now .depth) b e l;
     }
