@@ -65,7 +65,8 @@ def leaf_of(nodes, values):
     return at
 
 
-def samples_of(script):
+def held_of(script):
+    """The samples that a script leaves, by slot."""
     held = {}
     for line in lines_of(script)[1:]:
         letter, numbers = read_line(line)
@@ -73,6 +74,11 @@ def samples_of(script):
             admit(held, numbers)
         elif letter == b"W":
             withdraw(held, numbers)
+    return held
+
+
+def samples_of(script):
+    held = held_of(script)
     return [held[slot] for slot in sorted(held)]
 
 

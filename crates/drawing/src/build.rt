@@ -21,7 +21,13 @@ use samples::Slots;
 const LEAF_SAMPLES: usize = 4;
 
 // Draws the tree over a run of the box from node `at` on, and says where it ends. The run is then in disorder.
-pub fn build_box(slots: &Slots, run: &mut [u8], k: Bounds, nodes: &mut [Node], at: usize) -> usize
+pub(crate) fn build_box(
+    slots: &Slots,
+    run: &mut [u8],
+    k: Bounds,
+    nodes: &mut [Node],
+    at: usize,
+) -> usize
     requires { ⌜ Ready (held-in (now slots)) k (now run) (now nodes) at ⌝ }
     ensures { λ r. ⌜ Draws (held-in (now (slots .entry))) k at (now (nodes .entry)) (now (nodes .exit)) r ⌝ }
 {

@@ -13,7 +13,7 @@ use samples::SLOTS;
 use samples::Slots;
 
 // The slots that hold samples, in rising order, at the front of `run`; says how many there are.
-pub fn gather(slots: &Slots, run: &mut [u8; SLOTS]) -> usize
+pub(crate) fn gather(slots: &Slots, run: &mut [u8; SLOTS]) -> usize
     ensures within { λ r. ⌜ r ≤ 256 ⌝ }
     ensures holds { λ r. ⌜ Run (held-in (now (slots .entry))) everything (take r (now (run .exit))) ⌝ }
 {
@@ -28,7 +28,7 @@ pub fn gather(slots: &Slots, run: &mut [u8; SLOTS]) -> usize
 }
 
 // How many slots of a run have a sample in the box.
-pub fn count_in(slots: &Slots, run: &[u8], k: &Bounds) -> usize
+pub(crate) fn count_in(slots: &Slots, run: &[u8], k: &Bounds) -> usize
     ensures { λ r. ⌜ r ≡ lodging (held-in (now (slots .entry))) (box-of (now (k .entry))) (now (run .entry)) ⌝ }
 {
     let mut count = 0;
@@ -41,7 +41,7 @@ pub fn count_in(slots: &Slots, run: &[u8], k: &Bounds) -> usize
 }
 
 // Moves the slots of a run with samples in the box to its front, and says how many there are.
-pub fn part(slots: &Slots, run: &mut [u8], k: &Bounds) -> usize
+pub(crate) fn part(slots: &Slots, run: &mut [u8], k: &Bounds) -> usize
     ensures { λ r. ⌜ Parted (lodged (held-in (now (slots .entry))) (box-of (now (k .entry)))) (now (run .entry)) (now (run .exit)) r ⌝ }
 {
     let mut front = 0;
@@ -55,7 +55,7 @@ pub fn part(slots: &Slots, run: &mut [u8], k: &Bounds) -> usize
 }
 
 // How many samples of each fibre a run has.
-pub fn tally(slots: &Slots, run: &[u8]) -> [u16; CODES]
+pub(crate) fn tally(slots: &Slots, run: &[u8]) -> [u16; CODES]
     requires { ⌜ length (now run) ≤ 256 ⌝ }
     ensures { λ r. ⌜ ((f : ℕ) → f < 8 → getD r f 0 ≡ of-code (held-in (now (slots .entry))) (now (run .entry)) f) ⌝ }
 {

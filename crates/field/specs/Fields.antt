@@ -1,5 +1,6 @@
 -- What a field holds: its samples, and its tree by node. Assumes nothing.
 --   holds f        the table of the samples
+--   node-count f   how many nodes the tree has
 --   tree f         the nodes of the tree by number
 --   counts f       how many samples of each fibre each node has
 --   Drawn f        its tree is the one that rebuild draws
@@ -21,6 +22,9 @@ use Rattle.field.specs.declared.state.Field.{Field}
 
 abbrev pub holds : Field → Table
 holds f = table (f .slots)
+
+abbrev pub node-count : Field → ℕ
+node-count f = f .len
 
 abbrev pub tree : Field → ℕ → Node
 tree f = node-at (f .nodes)

@@ -12,6 +12,8 @@ pub enum Refusal {
     SlotEmpty = 11,
     // k is above the number of samples held.
     TooFewSamples = 12,
+    // A buffer is shorter than the file to be written.
+    BufferTooSmall = 14,
     // A line of a script, or a whole script, that cannot be read.
     Unreadable = 15,
 }

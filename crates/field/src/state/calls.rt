@@ -2,13 +2,13 @@
 ghost use mathlib.Core.Path.{_≡_};
 ghost use Prim.Native.Nat.{ℕ, _-_};
 ghost use Rattle.boxes.specs.Views.{entries};
-ghost use lib.ListN.{take, replicate};
+ghost use lib.ListN.{length, take, replicate};
 ghost use Rattle.std.specs.Options.{mapped};
 ghost use Rattle.std.specs.declared.option.Option.the-variants.{None};
 ghost use Rattle.samples.specs.Slots.{at, point, fibre-at, values-at, admit-rule, withdraw-rule};
 ghost use Rattle.trees.specs.Trees.{reached};
 ghost use Rattle.field.specs.declared.path.Change.the-variants.{Raise, Lower};
-ghost use Rattle.field.specs.Fields.{holds, tree, Bare, Drawn, Recounts};
+ghost use Rattle.field.specs.Fields.{holds, node-count, tree, Bare, Drawn, Recounts};
 use super::Field;
 use crate::path::Change;
 use crate::path::leaf_of;
@@ -54,7 +54,8 @@ impl Field {
 
     // The nodes of the tree.
     pub fn nodes(&self) -> &[Node]
-        ensures { λ r. ⌜ now r ≡ take (now (self .entry) .len) (now (self .entry) .nodes) ⌝ }
+        ensures tree { λ r. ⌜ now r ≡ take (now (self .entry) .len) (now (self .entry) .nodes) ⌝ }
+        ensures len { λ r. ⌜ length (now r) ≡ node-count (now (self .entry)) ⌝ }
     {
         &self.nodes[0..self.len as usize]
     }

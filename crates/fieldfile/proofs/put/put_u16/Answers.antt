@@ -1,0 +1,9 @@
+use native.Mathlib.Omega.{arith}
+use Rattle.fieldfile.proofs.Putting.{then-put}
+use Rattle.fieldfile.proofs.put.put_u16.Needs as need
+
+pub returns : need.returns
+returns c = record {
+  next = omega arith;
+  bytes = then-put (c .args .out .now) (c .args .at) _ _ (c .put-u8-high .result) (c .put-u8-high .ensures .bytes) (c .put-u8 .ensures .bytes) (omega arith) (omega arith);
+}
