@@ -12,12 +12,13 @@ use super::records::TRAILER_BYTES;
 use super::records::put_node;
 use super::records::put_sample;
 use super::records::put_trailer;
+use drawing::MAX_NODES;
 use field::Field;
 use samples::Refusal;
 use samples::SLOTS;
 
 // The bytes of the largest file: 256 samples and 1,021 nodes.
-pub const MAX_FILE: usize = 43_932;
+pub const MAX_FILE: usize = SAMPLE_BYTES * SLOTS + NODE_BYTES * MAX_NODES + TRAILER_BYTES;
 
 // Writes the file of a field to the front of a buffer and says how long it is.
 pub fn write(field: &Field, out: &mut [u8]) -> Result<usize, Refusal>

@@ -20,7 +20,7 @@ pub(crate) const NODE_BYTES: usize = 38;
 pub(crate) const TRAILER_BYTES: usize = 14;
 
 // The two bytes that end a file.
-const MARK: [u8; 2] = [0x46, 0x36];
+pub(crate) const MARK: [u8; 2] = [0x46, 0x36];
 
 pub(crate) fn put_sample(out: &mut [u8], at: usize, slot: u8, leaf: u16, sample: &Sample) -> usize
     requires { ⌜ at + 20 ≤ length (now out) ⌝ }
