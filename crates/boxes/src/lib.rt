@@ -1,4 +1,5 @@
 // Boxes over the bands, and the nodes of a tree of boxes.
+#![tactic(auto)]
 mod bounds;
 mod node;
 

@@ -1,4 +1,5 @@
 // A field: the samples held and the tree of boxes drawn round them.
+#![tactic(auto)]
 mod examples;
 mod path;
 mod state;

@@ -1,4 +1,5 @@
 // The field file: a field as bytes.
+#![tactic(auto)]
 mod file;
 mod outline;
 mod parts;

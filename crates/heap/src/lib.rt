@@ -1,4 +1,6 @@
 // A best-first heap: items with a total order, kept in a slice that is lent.
+#![tactic(auto)]
+
 ghost use Rattle.std.specs.Prelude.{◌≡◌, ℕ, ◌+◌, ◌-◌, ◌<◌, ◌≤◌, Bool, true, false, [], ◌∷◌, ◌++◌, length, take, ◌≢◌, slice_index_or};
 ghost use Rattle.std.specs.List.Sorted.{IsPermutation};
 ghost use Rattle.heap.specs.Contents.{content, room, Pushed, Popped, First};
@@ -45,7 +47,7 @@ impl<'a, T: Item + Copy> Heap<'a, T> {
     pub fn push(&mut self, item: T) -> Result<(), T>
         ensures cases { Pushed (content self.old) (room self.old) item (content self.new) result }
         ensures room { room self.new ≡ room self.old }
-        ensures heaped { Heaped ahead (content self.old) → Heaped ahead (content self.new) }
+        ensures heaped { Heaped T.ahead (content self.old) → Heaped T.ahead (content self.new) }
     {
         let len = self.len;
         if len >= self.items.len() {
@@ -60,8 +62,8 @@ impl<'a, T: Item + Copy> Heap<'a, T> {
     pub fn pop(&mut self) -> Option<T>
         ensures cases { Popped (content self.old) (content self.new) result }
         ensures room { room self.new ≡ room self.old }
-        ensures heaped { Heaped ahead (content self.old) → Heaped ahead (content self.new) }
-        ensures first { Heaped ahead (content self.old) → First ahead (content self.old) result }
+        ensures heaped { Heaped T.ahead (content self.old) → Heaped T.ahead (content self.new) }
+        ensures first { Heaped T.ahead (content self.old) → First T.ahead (content self.old) result }
     {
         let len = self.len.min(self.items.len());
         if len == 0 {
@@ -76,7 +78,7 @@ impl<'a, T: Item + Copy> Heap<'a, T> {
 // Writes an item behind the first `len` and lets it rise.
 fn put<T: Item + Copy>(items: &mut [T], len: usize, item: T)
     requires { len < length items.old }
-    ensures heaped { Kept ahead items.old len → Kept ahead items.new (len + 1) }
+    ensures heaped { Kept T.ahead items.old len → Kept T.ahead items.new (len + 1) }
     ensures items { IsPermutation (take len items.old ++ item ∷ []) (take (len + 1) items.new) }
 {
     items[len] = item;
@@ -87,9 +89,9 @@ fn put<T: Item + Copy>(items: &mut [T], len: usize, item: T)
 fn take_first<T: Item + Copy>(items: &mut [T], len: usize) -> T
     requires some { 0 < len }
     requires within { len ≤ length items.old }
-    ensures heaped { Kept ahead items.old len → Kept ahead items.new (len - 1) }
+    ensures heaped { Kept T.ahead items.old len → Kept T.ahead items.new (len - 1) }
     ensures items { IsPermutation (take len items.old) (take (len - 1) items.new ++ result ∷ []) }
-    ensures first { Kept ahead items.old len → (d : T) (k : ℕ) → k < len → ahead (slice_index_or items.old k d) result ≡ false }
+    ensures first { Kept T.ahead items.old len → (d : T) (k : ℕ) → k < len → T.ahead (slice_index_or items.old k d) result ≡ false }
 {
     let first = items[0];
     let last = len - 1;

@@ -8,7 +8,7 @@ use super::Item;
 // Lets the last item rise to its place.
 pub(crate) fn rise<T: Item>(items: &mut [T])
     requires { 0 < length items.old }
-    ensures heaped { Kept ahead items.old (length items.old - 1) → Heaped ahead items.new }
+    ensures heaped { Kept T.ahead items.old (length items.old - 1) → Heaped T.ahead items.new }
     ensures shuffled { IsPermutation items.old items.new }
 {
     let mut at = items.len() - 1;
@@ -24,7 +24,7 @@ pub(crate) fn rise<T: Item>(items: &mut [T])
 
 // Lets the first item sink to its place.
 pub(crate) fn sink<T: Item>(items: &mut [T])
-    ensures heaped { KeptBelow ahead items.old → Heaped ahead items.new }
+    ensures heaped { KeptBelow T.ahead items.old → Heaped T.ahead items.new }
     ensures shuffled { IsPermutation items.old items.new }
 {
     let n = items.len();
@@ -44,7 +44,7 @@ fn first_child<T: Item>(items: &[T], at: usize) -> usize
     requires { at < length items.now / 2 }
     ensures below { above result ≡ at }
     ensures within { (0 < result) × (result < length items.now) }
-    ensures first { (d : T) (k : ℕ) → 0 < k → k < length items.now → above k ≡ at → ahead (slice_index_or items.now k d) (slice_index_or items.now result d) ≡ false }
+    ensures first { (d : T) (k : ℕ) → 0 < k → k < length items.now → above k ≡ at → T.ahead (slice_index_or items.now k d) (slice_index_or items.now result d) ≡ false }
 {
     let left = 2 * at + 1;
     let right = left + 1;
@@ -59,7 +59,7 @@ fn first_child<T: Item>(items: &[T], at: usize) -> usize
 fn ahead_at<T: Item>(items: &[T], i: usize, j: usize) -> bool
     requires i_within { i < length items.now }
     requires j_within { j < length items.now }
-    ensures { (d : T) → result ≡ ahead (slice_index_or items.now i d) (slice_index_or items.now j d) }
+    ensures { (d : T) → result ≡ T.ahead (slice_index_or items.now i d) (slice_index_or items.now j d) }
 {
     items[i].before(&items[j])
 }

@@ -1,4 +1,6 @@
 // Measures: what a gap in a band weighs and how two weights join, the laws of both, and four measures.
+#![tactic(auto)]
+
 ghost use Rattle.std.specs.Prelude.{◌≡◌, ℕ, ◌*◌, ◌<◌, ◌≤◌, max, slice_index};
 ghost use Rattle.measure.specs.Weight.{held_sum, gap_at, join_to, weight_of, Monotone};
 ghost use Rattle.std.proofs.Common.{rules, mul-le-mul};
@@ -43,15 +45,15 @@ pub struct Peak;
 
 // What one reading weighs against another: its eight gaps weighed, and joined from band 0 upward.
 pub fn weight<M: Measure>(m: &M, x: &[u16; BANDS], y: &[u16; BANDS]) -> u32
-    ensures value { result ≡ weight_of (weighed m.now) (joined m.now) x.now y.now }
-    ensures monotone { Monotone (weighed m.now) (joined m.now) }
+    ensures value { result ≡ weight_of (M.weighed m.now) (M.joined m.now) x.now y.now }
+    ensures monotone { Monotone (M.weighed m.now) (M.joined m.now) }
 {
     join_gaps(m, &gaps(x, y))
 }
 
 // The weight of a gap in each band, joined from band 0 upward.
 pub fn join_gaps<M: Measure>(m: &M, gaps: &[u16; BANDS]) -> u32
-    ensures { result ≡ join_to (weighed m.now) (joined m.now) (λ b. slice_index gaps.now b) 7 }
+    ensures { result ≡ join_to (M.weighed m.now) (M.joined m.now) (λ b. slice_index gaps.now b) 7 }
 {
     let mut joined = m.weigh(0, gaps[0]);
     for band in 1..BANDS {

@@ -1,4 +1,6 @@
 // Which of eight codes has the most votes.
+#![tactic(auto)]
+
 ghost use Rattle.std.specs.Prelude.{◌≡◌, slice_index};
 ghost use Rattle.ranking.specs.Majority.{leader, Leads};
 

@@ -1,4 +1,5 @@
 // Samples in 256 slots, and the exact verdict over them.
+#![tactic(auto)]
 mod candidate;
 mod refusal;
 mod sample;

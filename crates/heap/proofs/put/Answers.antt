@@ -23,7 +23,7 @@ returns g c =
     let long : length (take (n + 1 - 0) ys) ≡ n + 1 = length-take-le (n + 1 - 0) ys (omega (arith, length-set xs n x)) ∙ end in
     let size : length zs ≡ n + 1 = omega arith in
     let more : take (n + 1 - 0) ys ≡ take n xs ++ x ∷ [] = ap (λ m. take m ys) end ∙ take_more_set xs n x (omega arith) in
-    let lt = g.T-as-Item.ahead in
+    let lt = g.T.Item.ahead in
     record {
       heaped = λ was.
           kept_same lt (n + 1) zs _ (λ d k h. get_or_append_left zs _ d k (omega arith))

@@ -9,7 +9,7 @@ use Rattle.heap.proofs.take_first.Goals as goal
 
 pub returns : goal.returns
 returns g c =
-    let m = g.T-as-Item in
+    let m = g.T.Item in
     let laws = g.met.T.Item in
     let o = order m.key m.ahead laws.one laws.neither laws.carries in
     let xs = c.args.items.now in

@@ -13,7 +13,7 @@ returns-then-len-eq0 g c =
 
 pub returns : goal.returns
 returns g c =
-    let lt = g.T-as-Item.ahead in
+    let lt = g.T.Item.ahead in
     let xs = c.args.self.now.items.now in
     let n = c.min-len.result in
     let held : take c.args.self.now.len xs ≡ take n xs = take_min xs c.args.self.now.len n (omega arith) in

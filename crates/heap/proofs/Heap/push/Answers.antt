@@ -11,7 +11,7 @@ returns-then-len-self g c =
 
 pub returns : goal.returns
 returns g c =
-    let lt = g.T-as-Item.ahead in
+    let lt = g.T.Item.ahead in
     let xs = c.args.self.now.items.now in
     let n = c.args.self.now.len in
     let long = length-take-le n xs (omega arith) in

@@ -6,7 +6,7 @@ use Rattle.heap.proofs.sift.first_child.Goals.{else-right-items-via-then-right-i
 
 pub returns-then-ahead-at : goal.returns-then-ahead-at
 returns-then-ahead-at g c =
-    let m = g.T-as-Item in
+    let m = g.T.Item in
     let laws = g.met.T.Item in
     let o = order m.key m.ahead laws.one laws.neither laws.carries in
     let xs = c.args.items.now in
@@ -25,7 +25,7 @@ returns-then-ahead-at g c =
 
 pub returns-else-right-items : goal.returns-else-right-items
 returns-else-right-items g c =
-    let m = g.T-as-Item in
+    let m = g.T.Item in
     let laws = g.met.T.Item in
     let o = order m.key m.ahead laws.one laws.neither laws.carries in
     let xs = c.args.items.now in

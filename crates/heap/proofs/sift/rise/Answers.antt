@@ -16,7 +16,7 @@ ahead-at-requires g c = record { i-within = omega arith; j-within = omega arith 
 
 pub returns-then-not-ahead-at : goal.returns-then-not-ahead-at
 returns-then-not-ahead-at g c =
-    let lt = g.T-as-Item.ahead in
+    let lt = g.T.Item.ahead in
     let xs = c.loop-at.items in
     record {
       heaped = λ was d k p l.
@@ -31,7 +31,7 @@ swap-requires g c = record { a-in-bounds = omega arith; b-in-bounds = omega arit
 
 pub loop-at-preserved : goal.loop-at-preserved
 loop-at-preserved g c =
-    let m = g.T-as-Item in
+    let m = g.T.Item in
     let laws = g.met.T.Item in
     let o = order m.key m.ahead laws.one laws.neither laws.carries in
     let n = length c.args.items.now in

@@ -6,7 +6,7 @@ use Rattle.heap.proofs.sift.rise.Given as goal
 
 abbrev pub invariant-loop-at : goal.invariant-loop-at
 invariant-loop-at g l =
-    let lt = g.T-as-Item.ahead in
+    let lt = g.T.Item.ahead in
     let n = length l.initial.items in
     (l.at < n) × IsPermutation l.initial.items l.items × (Kept lt l.initial.items (n - 1) → (d : g.row.T.Denot) → But lt n (λ k. get_or l.items k d) l.at × Over lt n (λ k. get_or l.items k d) l.at)
 

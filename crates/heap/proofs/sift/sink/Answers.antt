@@ -12,7 +12,7 @@ loop-at-init g c = (IsPermutation-refl _, λ was d. (was d, λ k p l e pos. absu
 
 pub returns-then-not-ahead-at : goal.returns-then-not-ahead-at
 returns-then-not-ahead-at g c =
-    let m = g.T-as-Item in
+    let m = g.T.Item in
     let laws = g.met.T.Item in
     let o = order m.key m.ahead laws.one laws.neither laws.carries in
     let xs = c.loop-at.items in
@@ -32,7 +32,7 @@ returns-then-not-ahead-at g c =
 
 pub loop-at-preserved : goal.loop-at-preserved
 loop-at-preserved g c =
-    let m = g.T-as-Item in
+    let m = g.T.Item in
     let laws = g.met.T.Item in
     let o = order m.key m.ahead laws.one laws.neither laws.carries in
     let n = length c.args.items.now in

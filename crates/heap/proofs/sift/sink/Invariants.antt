@@ -6,7 +6,7 @@ use Rattle.heap.proofs.sift.sink.Given as goal
 
 abbrev pub invariant-loop-at : goal.invariant-loop-at
 invariant-loop-at g l =
-    let lt = g.T-as-Item.ahead in
+    let lt = g.T.Item.ahead in
     let n = length l.initial.items in
     IsPermutation l.initial.items l.items × (KeptBelow lt l.initial.items → (d : g.row.T.Denot) → Under lt n (λ k. get_or l.items k d) l.at × Over lt n (λ k. get_or l.items k d) l.at)
 
