@@ -10,6 +10,6 @@ returns g c =
     let j = g.M.Measure.joined m in
     let laws = g.met.M.Measure in
     record {
-      value = c.join-gaps.ensures ∙ join_same w j _ (gap_at c.args.x.now c.args.y.now) 7 (λ b h. c.gaps.ensures b (omega arith));
+      value = c.join_gaps.ensures ∙ join_same w j _ (gap_at c.args.x.now c.args.y.now) 7 (λ b h. c.gaps.ensures b (omega arith));
       monotone = monotone w j (laws.weigh_rises m) (laws.join_rises m);
     }

@@ -22,11 +22,11 @@ returns g c =
     λ was. kept_from_heaped lt xs n (omega arith) (subst (Heaped lt) held was)
     in
     record {
-      cases = subst (λ l. IsPermutation l (take (n - 1) c.take-first-first.new.items ++ c.take-first-first.result ∷ [])) (sym held) c.take-first-first.ensures.items;
+      cases = subst (λ l. IsPermutation l (take (n - 1) c.take_first-first.new.items ++ c.take_first-first.result ∷ [])) (sym held) c.take_first-first.ensures.items;
       room = omega arith;
-      heaped = λ was. heaped_from_kept lt _ _ (omega arith) (c.take-first-first.ensures.heaped (kept was));
+      heaped = λ was. heaped_from_kept lt _ _ (omega arith) (c.take_first-first.ensures.heaped (kept was));
       first = λ was d k l.
           let at : k < n = omega (arith, ap length held) in
           let e = ap (λ ys. get_or ys k d) held ∙ get_or-take n xs k d at in
-          ap (λ y. lt y c.take-first-first.result) e ∙ c.take-first-first.ensures.first (kept was) d k at;
+          ap (λ y. lt y c.take_first-first.result) e ∙ c.take_first-first.ensures.first (kept was) d k at;
     }

@@ -2,10 +2,10 @@ use Rattle.std.proofs.Common.{◌≡◌, ◌+◌, ◌*◌, get_or, sym, ap, ◌�
 use Rattle.std.proofs.lemmas.Bool.{cases_eq}
 use Rattle.heap.proofs.Order.{Order, order}
 use Rattle.heap.proofs.sift.first_child.Goals as goal
-use Rattle.heap.proofs.sift.first_child.Goals.{else-right-items-via-then-right-items+else-ahead-at, else-right-items-via-else-right-items}
+use Rattle.heap.proofs.sift.first_child.Goals.{else-right-items-via-then-right-items+else-ahead_at, else-right-items-via-else-right-items}
 
-pub returns-then-ahead-at : goal.returns-then-ahead-at
-returns-then-ahead-at g c =
+pub returns-then-ahead_at : goal.returns-then-ahead_at
+returns-then-ahead_at g c =
     let m = g.T.Item in
     let laws = g.met.T.Item in
     let o = order m.key m.ahead laws.one laws.neither laws.carries in
@@ -19,7 +19,7 @@ returns-then-ahead-at g c =
           ⊎_elim (λ q. let s = o.self (get_or xs right d) in ap (λ i. m.ahead (get_or xs i d) (get_or xs right d)) q ∙ s)
           (λ ne.
           let q : k ≡ left = omega arith in
-          ap (λ i. m.ahead (get_or xs i d) (get_or xs right d)) q ∙ o.back _ _ (sym (c.if-ahead-at.ensures d)))
+          ap (λ i. m.ahead (get_or xs i d) (get_or xs right d)) q ∙ o.back _ _ (sym (c.if-ahead_at.ensures d)))
           (cases_eq k right);
     }
 
@@ -38,7 +38,7 @@ returns-else-right-items g c =
           (λ ne.
           let q : k ≡ left + 1 = omega arith in
           elim c.else-right-items.branch [
-            | else-right-items-via-then-right-items+else-ahead-at w ↦ ap (λ i. m.ahead (get_or xs i d) (get_or xs left d)) q ∙ sym (w.if-ahead-at.ensures d)
+            | else-right-items-via-then-right-items+else-ahead_at w ↦ ap (λ i. m.ahead (get_or xs i d) (get_or xs left d)) q ∙ sym (w.if-ahead_at.ensures d)
             | else-right-items-via-else-right-items w ↦ absurd (omega (arith, w.if-right-items.false))
           ])
           (cases_eq k left);

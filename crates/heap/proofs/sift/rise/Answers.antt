@@ -11,23 +11,23 @@ pub loop-at-init : goal.loop-at-init
 loop-at-init g c =
     (omega arith, IsPermutation-refl _, λ was d. (λ k p l ne. was d k p (omega arith), λ k p l e pos. absurd (omega arith)))
 
-pub ahead-at-requires : goal.ahead-at-requires
-ahead-at-requires g c = record { i-within = omega arith; j-within = omega arith }
+pub ahead_at-requires : goal.ahead_at-requires
+ahead_at-requires g c = record { i_within = omega arith; j_within = omega arith }
 
-pub returns-then-not-ahead-at : goal.returns-then-not-ahead-at
-returns-then-not-ahead-at g c =
+pub returns-then-not-ahead_at : goal.returns-then-not-ahead_at
+returns-then-not-ahead_at g c =
     let lt = g.T.Item.ahead in
     let xs = c.loop-at.items in
     record {
       heaped = λ was d k p l.
-          ⊎_elim (λ e. ap (λ i. lt (get_or xs i d) (get_or xs (above i) d)) e ∙ sym (c.if-not-ahead-at.ensures d))
+          ⊎_elim (λ e. ap (λ i. lt (get_or xs i d) (get_or xs (above i) d)) e ∙ sym (c.if-not-ahead_at.ensures d))
           (λ ne. (c.loop-at.invariant.2 was d).0 k p (omega arith) ne)
           (cases_eq k c.loop-at.at);
       shuffled = c.loop-at.invariant.1;
     }
 
 pub swap-requires : goal.swap-requires
-swap-requires g c = record { a-in-bounds = omega arith; b-in-bounds = omega arith }
+swap-requires g c = record { a_in_bounds = omega arith; b_in_bounds = omega arith }
 
 pub loop-at-preserved : goal.loop-at-preserved
 loop-at-preserved g c =
@@ -44,7 +44,7 @@ loop-at-preserved g c =
       omega arith,
       IsPermutation-trans _ _ _ inv.1 c.swap.ensures.permutation,
       λ was d. (
-        rise_but m.ahead o n (f d) (f' d) at (swapped d) c.loop-at-test.true inv.0 (inv.2 was d).0 (inv.2 was d).1 (sym (c.if-not-ahead-at.ensures d)),
+        rise_but m.ahead o n (f d) (f' d) at (swapped d) c.loop-at-test.true inv.0 (inv.2 was d).0 (inv.2 was d).1 (sym (c.if-not-ahead_at.ensures d)),
         rise_over m.ahead o n (f d) (f' d) at (swapped d) c.loop-at-test.true inv.0 (inv.2 was d).0,
       ),
     )

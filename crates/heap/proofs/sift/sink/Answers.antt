@@ -10,20 +10,20 @@ use Rattle.heap.proofs.sift.sink.Goals as goal
 pub loop-at-init : goal.loop-at-init
 loop-at-init g c = (IsPermutation-refl _, λ was d. (was d, λ k p l e pos. absurd (omega arith)))
 
-pub returns-then-not-ahead-at : goal.returns-then-not-ahead-at
-returns-then-not-ahead-at g c =
+pub returns-then-not-ahead_at : goal.returns-then-not-ahead_at
+returns-then-not-ahead_at g c =
     let m = g.T.Item in
     let laws = g.met.T.Item in
     let o = order m.key m.ahead laws.one laws.neither laws.carries in
     let xs = c.loop-at.items in
     let at = c.loop-at.at in
-    let child = c.first-child-child.result in
+    let child = c.first_child-child.result in
     record {
       heaped = λ was d k p l.
           ⊎_elim
           (λ e.
-          let under = c.first-child-child.ensures.first d k p l e in
-          let top = sym (c.if-not-ahead-at.ensures d) in
+          let under = c.first_child-child.ensures.first d k p l e in
+          let top = sym (c.if-not-ahead_at.ensures d) in
           ap (λ i. m.ahead (get_or xs k d) (get_or xs i d)) e ∙ o.through (get_or xs at d) (get_or xs child d) (get_or xs k d) top under)
           (λ ne. (c.loop-at.invariant.1 was d).0 k p (omega arith) ne)
           (cases_eq (above k) at);
@@ -37,8 +37,8 @@ loop-at-preserved g c =
     let o = order m.key m.ahead laws.one laws.neither laws.carries in
     let n = length c.args.items.now in
     let at = c.loop-at.at in
-    let child = c.first-child-child.result in
-    let found = c.first-child-child.ensures in
+    let child = c.first_child-child.result in
+    let found = c.first_child-child.ensures in
     let f = λ (d : g.row.T.Denot) (k : ℕ). get_or c.loop-at.items k d in
     let f' = λ (d : g.row.T.Denot) (k : ℕ). get_or c.swap.new.self k d in
     let places = c.swap.ensures.by_index in
@@ -46,7 +46,7 @@ loop-at-preserved g c =
     let swapped : (d : g.row.T.Denot) → Swapped (f d) (f' d) at child = λ d. (places.0 d, places.1 d, λ k. places.2 k d) in (
       IsPermutation-trans _ _ _ inv.0 c.swap.ensures.permutation,
       λ was d. (
-        sink_under m.ahead o n (f d) (f' d) at child (swapped d) found.within.0 (omega arith) found.below (inv.1 was d).0 (inv.1 was d).1 (sym (c.if-not-ahead-at.ensures d)) (λ k p l e. found.first d k p (omega arith) e),
+        sink_under m.ahead o n (f d) (f' d) at child (swapped d) found.within.0 (omega arith) found.below (inv.1 was d).0 (inv.1 was d).1 (sym (c.if-not-ahead_at.ensures d)) (λ k p l e. found.first d k p (omega arith) e),
         sink_over m.ahead o n (f d) (f' d) at child (swapped d) found.within.0 found.below (inv.1 was d).0,
       ),
     )
