@@ -6,8 +6,8 @@ use Rattle.drawing.specs.Held.{held_in}
 use Rattle.drawing.proofs.Whole.{plan_whole, run_whole, whole_size, whole_numbered, whole_tallied}
 use Rattle.drawing.proofs.draw.Goals as goal
 
-pub build-box-requires : goal.build-box-requires
-build-box-requires c =
+pub build_box-requires : goal.build_box-requires
+build_box-requires c =
     let a = held_in c.args.slots.now in
     let k = box_of c.everything.result in
     let xs = c.gather-held.new.run in
@@ -21,11 +21,11 @@ build-box-requires c =
       most = omega arith;
     }
 
-pub overflow-cast-result : goal.overflow-cast-result
-overflow-cast-result c =
+pub overflow_cast-result : goal.overflow_cast-result
+overflow_cast-result c =
     let a = held_in c.args.slots.now in
     let few = rebuilt_size a (omega arith) in
-    let e = whole_size a (box_of c.everything.result) c.everything.ensures c.args.nodes.now c.build-box.new.nodes c.build-box.result c.build-box.ensures in
+    let e = whole_size a (box_of c.everything.result) c.everything.ensures c.args.nodes.now c.build_box.new.nodes c.build_box.result c.build_box.ensures in
     omega arith
 
 pub returns : goal.returns
@@ -34,9 +34,9 @@ returns c =
     let k = box_of c.everything.result in
     let all = c.everything.ensures in
     let old = c.args.nodes.now in
-    let new = c.build-box.new.nodes in
-    let r = c.build-box.result in
-    let b = c.build-box.ensures in
+    let new = c.build_box.new.nodes in
+    let r = c.build_box.result in
+    let b = c.build_box.ensures in
     let few = rebuilt_size a (omega arith) in
     let e = whole_size a k all old new r b in
     record { value = e; bound = omega arith; numbered = whole_numbered a k all old new r b; tallied = whole_tallied a k all old new r b }

@@ -8,13 +8,13 @@ by_kind : {X Y : Type 0} (r : Result X Y) (kind named : MeasureKind) (text befor
 by_kind r kind named text before after e h = subst (λ m. IfOk r (λ _. Printed (weigh m) (join m) text before after)) (sym e) h
 
 pub returns-in-Block : goal.returns-in-Block
-returns-in-Block c = by_kind _ _ _ (text_left c.args.script) (string_bytes c.args.out.now) _ c.in-Block.is c.answer-lines.ensures
+returns-in-Block c = by_kind _ _ _ (text_left c.args.script) (string_bytes c.args.out.now) _ c.in-Block.is c.answer_lines.ensures
 
 pub returns-in-Square : goal.returns-in-Square
-returns-in-Square c = by_kind _ _ _ (text_left c.args.script) (string_bytes c.args.out.now) _ c.in-Square.is c.answer-lines-in-Square.ensures
+returns-in-Square c = by_kind _ _ _ (text_left c.args.script) (string_bytes c.args.out.now) _ c.in-Square.is c.answer_lines-in-Square.ensures
 
 pub returns-in-Peak : goal.returns-in-Peak
-returns-in-Peak c = by_kind _ _ _ (text_left c.args.script) (string_bytes c.args.out.now) _ c.in-Peak.is c.answer-lines-in-Peak.ensures
+returns-in-Peak c = by_kind _ _ _ (text_left c.args.script) (string_bytes c.args.out.now) _ c.in-Peak.is c.answer_lines-in-Peak.ensures
 
 pub returns-in-Damped : goal.returns-in-Damped
-returns-in-Damped c = by_kind _ _ _ (text_left c.args.script) (string_bytes c.args.out.now) _ c.in-Damped.is c.answer-lines-in-Damped.ensures
+returns-in-Damped c = by_kind _ _ _ (text_left c.args.script) (string_bytes c.args.out.now) _ c.in-Damped.is c.answer_lines-in-Damped.ensures

@@ -21,7 +21,7 @@ loop-halves-preserved-then-below-eq0 c =
     let a = held_in c.args.slots.now in
     let e = c.in-Some.ensures in
     let j = box_of c.loop-halves.deepest in
-    let x = core_goes_high a j _ _ e.value e.test c.args.run.now c.loop-halves.invariant.0 c.count-in-below.result c.count-in-below.ensures (omega arith) in
+    let x = core_goes_high a j _ _ e.value e.test c.args.run.now c.loop-halves.invariant.0 c.count_in-below.result c.count_in-below.ensures (omega arith) in
     (x.0, x.1 ∙ c.loop-halves.invariant.1)
 
 pub returns-then-below-run : goal.returns-then-below-run
@@ -29,7 +29,7 @@ returns-then-below-run c =
     let a = held_in c.args.slots.now in
     let e = c.in-Some.ensures in
     let j = box_of c.loop-halves.deepest in
-    sym (core_stays a j _ _ e.value e.test c.args.run.now c.loop-halves.invariant.0 c.count-in-below.result c.count-in-below.ensures (omega arith) (omega arith))
+    sym (core_stays a j _ _ e.value e.test c.args.run.now c.loop-halves.invariant.0 c.count_in-below.result c.count_in-below.ensures (omega arith) (omega arith))
     ∙ c.loop-halves.invariant.1
 
 pub loop-halves-smaller : goal.loop-halves-smaller
@@ -46,13 +46,13 @@ loop-halves-preserved c =
     let a = held_in c.args.slots.now in
     let e = c.in-Some.ensures in
     let j = box_of c.loop-halves.deepest in
-    let x = core_goes_low a j _ _ e.value e.test c.args.run.now c.loop-halves.invariant.0 c.count-in-below.result c.count-in-below.ensures (omega arith) (omega arith) in
+    let x = core_goes_low a j _ _ e.value e.test c.args.run.now c.loop-halves.invariant.0 c.count_in-below.result c.count_in-below.ensures (omega arith) (omega arith) in
     (x.0, x.1 ∙ c.loop-halves.invariant.1)
 
 pub returns : goal.returns
 returns c =
     let a = held_in c.args.slots.now in
     let j = c.loop-halves.deepest in
-    let least = ltb-false j.depth 80 (sym c.in-default.ensures.test) in
+    let least = ltb-false j.depth 80 (sym c.in_default.ensures.test) in
     let most = (grid_of j).0 in
     sym (core_stop a (box_of j) (omega arith)) ∙ c.loop-halves.invariant.1

@@ -4,7 +4,7 @@ use Rattle.trees.specs.Drawing.{lodged}
 use Rattle.drawing.specs.Held.{held_in}
 use Rattle.drawing.proofs.Parting.{parting_skip, parting_swap, parting_all, parting_at}
 use Rattle.drawing.proofs.runs.part.Goals as goal
-use Rattle.drawing.proofs.runs.part.Goals.{then-is-lodged, else-is-lodged}
+use Rattle.drawing.proofs.runs.part.Goals.{then-is_lodged, else-is_lodged}
 
 pub loop-i-preserved : goal.loop-i-preserved
 loop-i-preserved c =
@@ -13,11 +13,11 @@ loop-i-preserved c =
     let ys = c.loop-i.run in
     let m = c.loop-i.front in
     let i = c.loop-i.i in
-    elim c.if-is-lodged.branch [
-      | then-is-lodged w ↦
+    elim c.if-is_lodged.branch [
+      | then-is_lodged w ↦
           parting_at w.run-is w.front-is
-          (parting_swap p xs ys w.swap.new.self m i c.loop-i.invariant (sym w.if-is-lodged.ensures) w.swap.ensures.permutation w.swap.ensures.len w.swap.ensures.by_index)
-      | else-is-lodged w ↦ parting_at w.run-is w.front-is (parting_skip p xs ys m i c.loop-i.invariant (sym w.if-is-lodged.ensures))
+          (parting_swap p xs ys w.swap.new.self m i c.loop-i.invariant (sym w.if-is_lodged.ensures) w.swap.ensures.permutation w.swap.ensures.len w.swap.ensures.by_index)
+      | else-is_lodged w ↦ parting_at w.run-is w.front-is (parting_skip p xs ys m i c.loop-i.invariant (sym w.if-is_lodged.ensures))
     ]
 
 pub returns : goal.returns

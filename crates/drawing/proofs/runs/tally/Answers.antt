@@ -4,10 +4,10 @@ use Rattle.samples.proofs.Tabled.{held_some, fibre_some}
 use Rattle.ranking.specs.Counts.{bit}
 use Rattle.drawing.proofs.Running.{bits_more, bits_le, bits_all, code_more}
 use Rattle.drawing.proofs.runs.tally.Goals as goal
-use Rattle.drawing.proofs.runs.tally.Goals.{in-Some, in-default}
+use Rattle.drawing.proofs.runs.tally.Goals.{in-Some, in_default}
 
-pub overflow-add-counts : goal.overflow-add-counts
-overflow-add-counts c =
+pub overflow_add-counts : goal.overflow_add-counts
+overflow_add-counts c =
     let t = table c.args.slots.now in
     let f = c.fibre.result in
     let few = bits_le (λ s. held t s && eqb (fibre_at t s) f) c.args.run.now c.loop-slot.slot-index (omega arith) in
@@ -38,8 +38,8 @@ loop-slot-preserved c =
                 let b : bit (eqb x.fibre.result f) ≡ bit (held t s && eqb (fibre_at t s) f) = grind arith in
                 omega arith,
           )
-      | in-default x ↦
-          let h : held t s ≡ false = ap is_some (sym x.in-default.ensures) in (
+      | in_default x ↦
+          let h : held t s ≡ false = ap is_some (sym x.in_default.ensures) in (
             ap length x.counts-is ∙ inv.0,
             λ f l.
                 let more = bits_more (λ s. held t s && eqb (fibre_at t s) f) xs i (omega arith) in

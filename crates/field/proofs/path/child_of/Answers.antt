@@ -3,17 +3,17 @@ use Rattle.boxes.specs.Views.{entries}
 use Rattle.field.proofs.Stepped.{at_leaf, ups, to_first, to_second}
 use Rattle.field.proofs.path.child_of.Goals as goal
 
-pub overflow-cast-first : goal.overflow-cast-first
-overflow-cast-first c = let u = ups c.args.nodes.now c.args.len c.requires.rules c.requires.room c.args.at c.requires.within c.index-nodes-at.result c.index-nodes-at.is c.if-eq.ensures in search rules
+pub overflow_cast-first : goal.overflow_cast-first
+overflow_cast-first c = let u = ups c.args.nodes.now c.args.len c.requires.rules c.requires.room c.args.at c.requires.within c.index-nodes-at.result c.index-nodes-at.is c.if-eq.ensures in search rules
 
-pub offset-bounds-nodes-first : goal.offset-bounds-nodes-first
-offset-bounds-nodes-first c = let u = ups c.args.nodes.now c.args.len c.requires.rules c.requires.room c.args.at c.requires.within c.index-nodes-at.result c.index-nodes-at.is c.if-eq.ensures in search rules
+pub offset_bounds-nodes-first : goal.offset_bounds-nodes-first
+offset_bounds-nodes-first c = let u = ups c.args.nodes.now c.args.len c.requires.rules c.requires.room c.args.at c.requires.within c.index-nodes-at.result c.index-nodes-at.is c.if-eq.ensures in search rules
 
 pub bounds-nodes-first : goal.bounds-nodes-first
 bounds-nodes-first c = let u = ups c.args.nodes.now c.args.len c.requires.rules c.requires.room c.args.at c.requires.within c.index-nodes-at.result c.index-nodes-at.is c.if-eq.ensures in omega arith
 
-pub overflow-cast-result : goal.overflow-cast-result
-overflow-cast-result c = let u = ups c.args.nodes.now c.args.len c.requires.rules c.requires.room c.args.at c.requires.within c.index-nodes-at.result c.index-nodes-at.is c.if-eq.ensures in search rules
+pub overflow_cast-result : goal.overflow_cast-result
+overflow_cast-result c = let u = ups c.args.nodes.now c.args.len c.requires.rules c.requires.room c.args.at c.requires.within c.index-nodes-at.result c.index-nodes-at.is c.if-eq.ensures in search rules
 
 pub returns-then-covers : goal.returns-then-covers
 returns-then-covers c = to_first c.args.nodes.now c.args.len c.requires.rules c.requires.room c.args.at c.requires.within c.index-nodes-at.result c.index-nodes-at.is c.if-eq.ensures (entries c.args.values.now) c.index-nodes-first.result c.index-nodes-first.is c.if-covers.ensures

@@ -13,4 +13,4 @@ loop-next-preserved c =
 
 pub returns : goal.returns
 returns c =
-    ends_one c.args.len (node_at c.args.nodes.now) c.requires.rules (entries c.args.values.now) c.loop-next.at c.loop-next.invariant.0 c.in-default.ensures c.loop-next.invariant.1
+    ends_one c.args.len (node_at c.args.nodes.now) c.requires.rules (entries c.args.values.now) c.loop-next.at c.loop-next.invariant.0 c.in_default.ensures c.loop-next.invariant.1

@@ -23,8 +23,8 @@ touch-requires c =
     let e = mark_fresh c.args.len os c.requires.rules (entries c.args.values.now) c.args.change c.args.fibre c.loop-next.nodes at c.loop-next.invariant.3 c.args.fibre in
     record { within = omega arith; coded = c.requires.coded; fits = omega (arith, c.requires.fits at c.loop-next.invariant.0) }
 
-pub child-of-requires : goal.child-of-requires
-child-of-requires c =
+pub child_of-requires : goal.child_of-requires
+child_of-requires c =
     let same = same_tree _ _ c.touch.ensures.shape ∙ c.loop-next.invariant.2 in
     record { rules = subst (Rules c.args.len) (sym same) c.requires.rules; room = omega arith; within = c.loop-next.invariant.0 }
 
@@ -44,8 +44,8 @@ loop-next-preserved c =
       mark_steps c.args.len os c.requires.rules v c.args.change c.args.fibre c.loop-next.nodes c.touch.new.nodes at inv.0 inv.1 inv.3 c.touch.ensures.counts z n goes.1,
     )
 
-pub returns-in-default : goal.returns-in-default
-returns-in-default c =
+pub returns-in_default : goal.returns-in_default
+returns-in_default c =
     let os = c.args.nodes.now in
     let v = entries c.args.values.now in
     let at = c.loop-next.at in
@@ -55,5 +55,5 @@ returns-in-default c =
       shape = λ x. ap (λ t. t x) same;
       counts = λ x f l.
           mark_ends c.args.len os c.requires.rules v c.args.change c.args.fibre c.loop-next.nodes c.touch.new.nodes at inv.0 inv.1 inv.3 c.touch.ensures.counts
-          (ap (λ t. (t at).kind) (sym same) ∙ c.in-default.ensures) x f;
+          (ap (λ t. (t at).kind) (sym same) ∙ c.in_default.ensures) x f;
     }

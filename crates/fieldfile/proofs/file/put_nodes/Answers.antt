@@ -12,8 +12,8 @@ pub loop-number-init : goal.loop-number-init
 loop-number-init c =
     (omega arith, put_none _ _ ∙ ap (put c.args.out.now c.args.from) (sym (pieces_none (node_bytes c.args.field.now))))
 
-pub put-node-at-requires : goal.put-node-at-requires
-put-node-at-requires c = omega arith
+pub put_node-at-requires : goal.put_node-at-requires
+put_node-at-requires c = omega arith
 
 pub loop-number-preserved : goal.loop-number-preserved
 loop-number-preserved c =
@@ -26,7 +26,7 @@ loop-number-preserved c =
     in
     let long = length_nodes f x in (
       omega arith,
-      then_put c.args.out.now c.args.from (nodes_bytes f x) _ c.loop-number.at c.loop-number.invariant.1 c.put-node-at.ensures.bytes (omega arith) (omega arith)
+      then_put c.args.out.now c.args.from (nodes_bytes f x) _ c.loop-number.at c.loop-number.invariant.1 c.put_node-at.ensures.bytes (omega arith) (omega arith)
           ∙ (λ i. put c.args.out.now c.args.from (nodes_bytes f x ++ node_record (node_of (here i)) (entries (here i).counts)))
           ∙ ap (put c.args.out.now c.args.from) (sym (pieces_more (node_bytes f) x)),
     )

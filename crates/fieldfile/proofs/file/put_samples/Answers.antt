@@ -12,21 +12,21 @@ use Rattle.fieldfile.specs.Format.{leaf_number, sample_record, sample_bytes, sam
 use Rattle.fieldfile.proofs.Lengths.{count_before, length_samples}
 use Rattle.fieldfile.proofs.Putting.{put_none, then_put, pieces_none, pieces_more}
 use Rattle.fieldfile.proofs.file.put_samples.Goals as goal
-use Rattle.fieldfile.proofs.file.put_samples.Goals.{in-Some, in-default}
+use Rattle.fieldfile.proofs.file.put_samples.Goals.{in-Some, in_default}
 
 pub loop-slot-init : goal.loop-slot-init
 loop-slot-init c =
     let none = count_zero (held (holds c.args.field.now)) in
     (omega arith, put_none _ _ ∙ ap (put c.args.out.now 0) (sym (pieces_none _)))
 
-pub overflow-cast-leaf : goal.overflow-cast-leaf
-overflow-cast-leaf c =
+pub overflow_cast-leaf : goal.overflow_cast-leaf
+overflow_cast-leaf c =
     let f = c.args.field.now in
     let below = reached_le (tree f) (entries c.values.result.now) (node_count f - 1) in
-    omega (arith, f.len_fits, c.leaf-of-leaf.ensures)
+    omega (arith, f.len_fits, c.leaf_of-leaf.ensures)
 
-pub put-sample-at-requires : goal.put-sample-at-requires
-put-sample-at-requires c =
+pub put_sample-at-requires : goal.put_sample-at-requires
+put_sample-at-requires c =
     let t = holds c.args.field.now in
     let s = c.loop-slot.slot in
     let full = held_some t s (point c.in-Some.sample) c.in-Some.ensures in
@@ -50,17 +50,17 @@ loop-slot-preserved c =
           let few = count_before (held t) s 256 (omega arith) full in
           let fibre = fibre_some t s x found in
           let values = values_some t s x found in
-          let leaf : w.leaf-of-leaf.result ≡ leaf_number f s =
-          w.leaf-of-leaf.ensures ∙ ap (λ v. reached (tree f) (entries v) (node_count f - 1)) (w.values.ensures ∙ sym values)
+          let leaf : w.leaf_of-leaf.result ≡ leaf_number f s =
+          w.leaf_of-leaf.ensures ∙ ap (λ v. reached (tree f) (entries v) (node_count f - 1)) (w.values.ensures ∙ sym values)
           in (
             omega (arith, w.at-is),
-            w.out-is ∙ then_put xs 0 (samples_bytes f s) _ c.loop-slot.at c.loop-slot.invariant.1 w.put-sample-at.ensures.bytes (omega arith) (omega arith)
+            w.out-is ∙ then_put xs 0 (samples_bytes f s) _ c.loop-slot.at c.loop-slot.invariant.1 w.put_sample-at.ensures.bytes (omega arith) (omega arith)
                 ∙ (λ i. put xs 0 (samples_bytes f s ++ sample_record s (sym fibre i) (leaf i) (entries (sym values i))))
                 ∙ (λ i. put xs 0 (samples_bytes f s ++ cond (sym full i) (sample_bytes f s) []))
                 ∙ ap (put xs 0) (sym (pieces_more _ s)),
           )
-      | in-default w ↦
-          let empty : held t s ≡ false = ap is_some (sym w.in-default.ensures) in
+      | in_default w ↦
+          let empty : held t s ≡ false = ap is_some (sym w.in_default.ensures) in
           let none : bit (held t s) ≡ 0 = ap bit empty in (
             omega (arith, w.at-is),
             w.out-is ∙ c.loop-slot.invariant.1

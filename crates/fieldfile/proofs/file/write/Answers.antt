@@ -26,7 +26,7 @@ returns c =
     let a = length_samples f 256 in
     let b = length_nodes f (node_count f) in
     let both = length-append (samples_bytes f 256) (nodes_bytes f (node_count f)) in
-    let records = then_put xs 0 (samples_bytes f 256) (nodes_bytes f (node_count f)) c.put-samples-nodes-at.result c.put-samples-nodes-at.ensures.bytes c.put-nodes-trailer-at.ensures.bytes (omega arith) (omega arith) in
-    let all = then_put xs 0 _ _ c.put-nodes-trailer-at.result records c.put-trailer.ensures.bytes (omega arith) (omega arith) in
+    let records = then_put xs 0 (samples_bytes f 256) (nodes_bytes f (node_count f)) c.put_samples-nodes_at.result c.put_samples-nodes_at.ensures.bytes c.put_nodes-trailer_at.ensures.bytes (omega arith) (omega arith) in
+    let all = then_put xs 0 _ _ c.put_nodes-trailer_at.result records c.put_trailer.ensures.bytes (omega arith) (omega arith) in
     let whole = all ∙ (λ i. put xs 0 (append_assoc (samples_bytes f 256) (nodes_bytes f (node_count f)) (trailer_bytes (n i) (m i)) i)) in
     (omega arith, omega arith, whole ∙ put_front xs (file_of f))

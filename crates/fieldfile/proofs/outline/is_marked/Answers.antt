@@ -2,9 +2,9 @@ use Rattle.std.proofs.Common.{arith}
 use Rattle.fieldfile.specs.Outlines.{marked}
 use Rattle.fieldfile.proofs.outline.is_marked.Goals as goal
 
-pub returns-then-file-lt-TRAILER-BYTES : goal.returns-then-file-lt-TRAILER-BYTES
+pub returns-then-file-lt-TRAILER_BYTES : goal.returns-then-file-lt-TRAILER_BYTES
 unfolding marked
-returns-then-file-lt-TRAILER-BYTES c = grind arith
+returns-then-file-lt-TRAILER_BYTES c = grind arith
 
 pub returns-then-file-end : goal.returns-then-file-end
 unfolding marked

@@ -13,7 +13,7 @@ loop-i-preserved c =
     let f : ℕ → List ℕ = λ b. le2 (get_or c.args.numbers.now b 0) in
     let long = length_pieces f 2 (λ _. refl) c.loop-i.i in (
       omega arith,
-      then_put c.args.out.now c.args.at (pieces f c.loop-i.i) (f c.loop-i.i) c.loop-i.next c.loop-i.invariant.1 c.put-u16-next.ensures.bytes (omega arith) (omega arith)
+      then_put c.args.out.now c.args.at (pieces f c.loop-i.i) (f c.loop-i.i) c.loop-i.next c.loop-i.invariant.1 c.put_u16-next.ensures.bytes (omega arith) (omega arith)
           ∙ ap (put c.args.out.now c.args.at) (sym (pieces_more f c.loop-i.i)),
     )
 

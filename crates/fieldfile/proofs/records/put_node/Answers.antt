@@ -23,10 +23,10 @@ unfolding node_record record_of
 returns c =
     let xs = c.args.out.now in
     let at = c.args.at in
-    let two = then_put xs at _ _ c.put-u8-depth-at.result c.put-u8-depth-at.ensures.bytes c.put-u8-first-at.ensures.bytes (omega arith) (omega arith) in
-    let four = then_put xs at _ _ c.put-u8-first-at.result two c.put-u16-second-at.ensures.bytes (omega arith) (omega arith) in
-    let six = then_put xs at _ _ c.put-u16-second-at.result four c.put-u16-corner-at.ensures.bytes (omega arith) (omega arith) in
-    let most = then_put xs at _ _ c.put-u16-corner-at.result six c.put-row-counts-at.ensures.bytes (omega arith) (omega arith) in
+    let two = then_put xs at _ _ c.put_u8-depth_at.result c.put_u8-depth_at.ensures.bytes c.put_u8-first_at.ensures.bytes (omega arith) (omega arith) in
+    let four = then_put xs at _ _ c.put_u8-first_at.result two c.put_u16-second_at.ensures.bytes (omega arith) (omega arith) in
+    let six = then_put xs at _ _ c.put_u16-second_at.result four c.put_u16-corner_at.ensures.bytes (omega arith) (omega arith) in
+    let most = then_put xs at _ _ c.put_u16-corner_at.result six c.put_row-counts_at.ensures.bytes (omega arith) (omega arith) in
     let l = length_row (entries c.corner.result.now) in
-    let all = then_put xs at _ _ c.put-row-counts-at.result most c.put-row.ensures.bytes (omega arith) (omega arith) in
+    let all = then_put xs at _ _ c.put_row-counts_at.result most c.put_row.ensures.bytes (omega arith) (omega arith) in
     record { next = omega arith; bytes = all ∙ λ i. put xs at (record_of (kind_coded c.args.node.now.kind i) (c.depth.ensures.value i) c.args.node.now.first c.args.node.now.second (entries (c.corner.ensures i)) (entries c.args.node.now.counts)) }

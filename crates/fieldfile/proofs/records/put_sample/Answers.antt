@@ -10,7 +10,7 @@ unfolding sample_record
 returns c =
     let xs = c.args.out.now in
     let at = c.args.at in
-    let two = then_put xs at _ _ c.put-u8-fibre-at.result c.put-u8-fibre-at.ensures.bytes c.put-u8-leaf-at.ensures.bytes (omega arith) (omega arith) in
-    let four = then_put xs at _ _ c.put-u8-leaf-at.result two c.put-u16-values-at.ensures.bytes (omega arith) (omega arith) in
-    let all = then_put xs at _ _ c.put-u16-values-at.result four c.put-row.ensures.bytes (omega arith) (omega arith) in
+    let two = then_put xs at _ _ c.put_u8-fibre_at.result c.put_u8-fibre_at.ensures.bytes c.put_u8-leaf_at.ensures.bytes (omega arith) (omega arith) in
+    let four = then_put xs at _ _ c.put_u8-leaf_at.result two c.put_u16-values_at.ensures.bytes (omega arith) (omega arith) in
+    let all = then_put xs at _ _ c.put_u16-values_at.result four c.put_row.ensures.bytes (omega arith) (omega arith) in
     record { next = omega arith; bytes = all ∙ λ i. put xs at (sample_record c.args.slot (c.fibre.ensures.value i) c.args.leaf (entries (c.values.ensures i))) }

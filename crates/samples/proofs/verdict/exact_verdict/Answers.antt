@@ -16,9 +16,9 @@ returns g c =
     let W = g.M.Measure.weighed c.args.measure.now in
     let J = g.M.Measure.joined c.args.measure.now in
     let of : ℕ → ℕ = votes W J t r k in
-    let e : c.most-common.result ≡ leader of 8 = c.most-common.ensures.value ∙ leader_same _ of 8 (λ f l. c.nearest-votes.ensures f l) in
+    let e : c.most_common.result ≡ leader of 8 = c.most_common.ensures.value ∙ leader_same _ of 8 (λ f l. c.nearest_votes.ensures f l) in
     let enough : k ≤ samples t = omega arith in
-    let asked : askable r k ≡ true = and_from _ _ (le-leb 1 k (omega arith)) (and_from _ _ (le-leb k 32 (omega arith)) (sym c.new.ensures.test ∙ c.if-is-none.ensures)) in
+    let asked : askable r k ≡ true = and_from _ _ (le-leb 1 k (omega arith)) (and_from _ _ (le-leb k 32 (omega arith)) (sym c.new.ensures.test ∙ c.if-is_none.ensures)) in
     let first = count_first (nearer (weight_at W J t r)) (nearer_strict (weight_at W J t r)) (held t) 256 k in
     record {
       value = ap Ok e ∙ sym (cond-true (askable r k) _ _ asked ∙ cond-true (leb k (samples t)) _ _ (le-leb k (samples t) enough));

@@ -11,16 +11,16 @@ use Rattle.samples.proofs.Picking.{Picked, picked, picking_some}
 use Rattle.samples.proofs.Tabled.{fibre_some}
 use Rattle.samples.proofs.Voting.{Voting, voting_begins, voting_steps}
 use Rattle.samples.proofs.verdict.nearest_votes.Goals as goal
-use Rattle.samples.proofs.verdict.nearest_votes.Goals.{in-Some+in-Some-get, in-Some+in-default-get, in-default}
+use Rattle.samples.proofs.verdict.nearest_votes.Goals.{in-Some+in-Some-get, in-Some+in_default-get, in_default}
 
 zeros : (f : ℕ) → f < 8 → ◌≡◌ {A = ℕ} (get_or (replicate 8 0) f 0) 0
 zeros f l = get_or-replicate 8 f 0 0 l
 
 pub loop-turn-init : goal.loop-turn-init
-loop-turn-init g c = voting_begins _ _ _ _ _ c.weigh-all.ensures.holds c.weigh-all.ensures.heaped refl (λ f l. zeros f l)
+loop-turn-init g c = voting_begins _ _ _ _ _ c.weigh_all.ensures.holds c.weigh_all.ensures.heaped refl (λ f l. zeros f l)
 
-pub overflow-add-votes : goal.overflow-add-votes
-overflow-add-votes g c =
+pub overflow_add-votes : goal.overflow_add-votes
+overflow_add-votes g c =
     let t = table c.args.slots.now in
     let w : ℕ → ℕ = weight_at (g.M.Measure.weighed c.args.measure.now) (g.M.Measure.joined c.args.measure.now) t c.args.reading.now in
     let f = c.fibre.result in
@@ -50,12 +50,12 @@ loop-turn-preserved g c =
           ap (λ n. set vs n (get_or vs n 0 + 1)) f ∙ sym x.votes-is
           in
           subst (λ l. Voting w (held t) (fibre_at t) (i + 1) ys l) same steps
-      | in-Some+in-default-get x ↦
+      | in-Some+in_default-get x ↦
           let e = x.in-Some.ensures in
           let s = x.in-Some.next.slot in
           let p : Picked w (held t) i ys s = picked w (held t) i (omega arith) xs inv.holds ys x.in-Some.next e.cases (e.first inv.heaped) in
-          absurd (both_ways (held t s) (ap is_some (sym x.in-default-get.ensures)) p.held)
-      | in-default x ↦ absurd (picking_some w (held t) i (omega arith) xs inv.holds x.in-default.ensures.cases.0)
+          absurd (both_ways (held t s) (ap is_some (sym x.in_default-get.ensures)) p.held)
+      | in_default x ↦ absurd (picking_some w (held t) i (omega arith) xs inv.holds x.in_default.ensures.cases.0)
     ]
 
 pub returns : goal.returns

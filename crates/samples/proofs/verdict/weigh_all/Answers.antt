@@ -7,7 +7,7 @@ use Rattle.samples.specs.Verdict.{weight_at}
 use Rattle.samples.proofs.Gathered.{gathered_at, gathered_none, gathered_skip, gathered_push}
 use Rattle.samples.proofs.Tabled.{held_some, values_some}
 use Rattle.samples.proofs.verdict.weigh_all.Goals as goal
-use Rattle.samples.proofs.verdict.weigh_all.Goals.{in-Some, in-default}
+use Rattle.samples.proofs.verdict.weigh_all.Goals.{in-Some, in_default}
 
 pub loop-slot-init : goal.loop-slot-init
 loop-slot-init g c = gathered_none _ _ _ c.requires.empty c.requires.room
@@ -32,7 +32,7 @@ loop-slot-preserved g c =
           in
           gathered_at x.heap_is refl
           (gathered_push h w (held t) k x.push.result i (omega arith) c.loop-slot.invariant (held_some t i x₀ got) pushed x.push.ensures.room (x.push.ensures.heaped c.loop-slot.invariant.heaped))
-      | in-default x ↦ gathered_at x.heap_is refl (gathered_skip h w (held t) i c.loop-slot.invariant (ap is_some (sym x.in-default.ensures)))
+      | in_default x ↦ gathered_at x.heap_is refl (gathered_skip h w (held t) i c.loop-slot.invariant (ap is_some (sym x.in_default.ensures)))
     ]
 
 pub returns : goal.returns

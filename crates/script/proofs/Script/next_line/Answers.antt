@@ -5,8 +5,8 @@ use Rattle.script.proofs.Script.next_line.Goals as goal
 
 pub returns : goal.returns
 returns c =
-    let taken = c.in-ok-line.ensures in
+    let taken = c.in_ok-line.ensures in
     record {
-      next = ap (map command_of) taken.0 ∙ ap (λ r. r ∷ commands (text_left c.take-line.new.self)) (sym c.parse-command.ensures);
+      next = ap (map command_of) taken.0 ∙ ap (λ r. r ∷ commands (text_left c.take_line.new.self)) (sym c.parse_command.ensures);
       shorter = taken.1;
     }

@@ -3,9 +3,9 @@ use Rattle.trees.specs.Boxes.{side, halved, is_on_grid}
 use Rattle.boxes.proofs.Viewed.{zeros_box}
 use Rattle.boxes.proofs.bounds.Bounds.everything.Goals as goal
 
-pub invariant-of-result : goal.invariant-of-result
+pub invariant_of-result : goal.invariant_of-result
 unfolding is_on_grid side halved
-invariant-of-result c = (refl, tt)
+invariant_of-result c = (refl, tt)
 
 pub returns : goal.returns
 returns c = zeros_box

@@ -9,5 +9,5 @@ returns c =
     let k = c.args.self.now in
     record {
       test = sym (lt-ltb k.depth 80 (omega arith));
-      value = halved_is (box_of k) _ _ (omega arith) c.lower-half.ensures c.upper-half.ensures;
+      value = halved_is (box_of k) _ _ (omega arith) c.lower_half.ensures c.upper_half.ensures;
     }

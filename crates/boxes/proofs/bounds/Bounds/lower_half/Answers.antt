@@ -3,8 +3,8 @@ use Rattle.boxes.proofs.Gridded.{grid_of, on_grid_lower}
 use Rattle.boxes.proofs.Viewed.{lower_is}
 use Rattle.boxes.proofs.bounds.Bounds.lower_half.Goals as goal
 
-pub invariant-of-result : goal.invariant-of-result
-invariant-of-result c =
+pub invariant_of-result : goal.invariant_of-result
+invariant_of-result c =
     let k = c.args.self.now in
     (on_grid_lower _ _ (box_of k) (lower_is k.depth k.corner) c.requires (grid_of k), tt)
 

@@ -2,17 +2,17 @@ use Rattle.std.proofs.Common.{sym, arith}
 use Rattle.boxes.proofs.Gridded.{on_grid_all, on_grid_deep, on_grid_fails}
 use Rattle.boxes.proofs.bounds.Bounds.new.Goals as goal
 
-pub returns-then-depth-gt-MAX-DEPTH : goal.returns-then-depth-gt-MAX-DEPTH
-returns-then-depth-gt-MAX-DEPTH c =
+pub returns-then-depth-gt-MAX_DEPTH : goal.returns-then-depth-gt-MAX_DEPTH
+returns-then-depth-gt-MAX_DEPTH c =
     record { test = sym (on_grid_deep c.args.depth c.args.corner.now (omega arith)); value = tt }
 
-pub returns-then-not-is-step : goal.returns-then-not-is-step
-returns-then-not-is-step c =
+pub returns-then-not-is_step : goal.returns-then-not-is_step
+returns-then-not-is_step c =
     record {
-      test = sym (on_grid_fails c.args.depth c.args.corner.now c.loop-band.band (omega arith) (sym c.if-not-is-step.ensures));
+      test = sym (on_grid_fails c.args.depth c.args.corner.now c.loop-band.band (omega arith) (sym c.if-not-is_step.ensures));
       value = tt;
     }
 
-pub invariant-of-result : goal.invariant-of-result
-invariant-of-result c =
+pub invariant_of-result : goal.invariant_of-result
+invariant_of-result c =
     (on_grid_all c.args.depth c.args.corner.now (omega arith) (λ b l. c.loop-band.invariant b (omega arith)), tt)

@@ -2,8 +2,8 @@ use Rattle.std.proofs.Common.{◌<◌, ◌≢◌, length, ◌∙◌, arith, leng
 use Rattle.boxes.proofs.Gridded.{grid_of, deepest_side}
 use Rattle.boxes.proofs.bounds.Bounds.sides.Goals as goal
 
-pub side-at-requires : goal.side-at-requires
-side-at-requires c = ((grid_of c.args.self.now).0, omega arith)
+pub side_at-requires : goal.side_at-requires
+side_at-requires c = ((grid_of c.args.self.now).0, omega arith)
 
 pub loop-band-preserved : goal.loop-band-preserved
 loop-band-preserved c =
@@ -11,7 +11,7 @@ loop-band-preserved c =
     let i = c.loop-band.band in
     let inv = c.loop-band.invariant in
     let within : i < length xs = omega arith in
-    (length-set xs i _ ∙ inv.0, below_more _ i (λ b l. let ne : b ≢ i = omega arith in rw get_or-set_other (inv.1 b l)) (rw get_or-set_same c.side-at.ensures.value))
+    (length-set xs i _ ∙ inv.0, below_more _ i (λ b l. let ne : b ≢ i = omega arith in rw get_or-set_other (inv.1 b l)) (rw get_or-set_same c.side_at.ensures.value))
 
 pub returns : goal.returns
 returns c =

@@ -6,20 +6,20 @@ use Rattle.boxes.proofs.Gridded.{grid_of, on_grid_upper}
 use Rattle.boxes.proofs.Viewed.{upper_is}
 use Rattle.boxes.proofs.bounds.Bounds.upper_half.Goals as goal
 
-pub overflow-add-corner : goal.overflow-add-corner
-overflow-add-corner c =
+pub overflow_add-corner : goal.overflow_add-corner
+overflow_add-corner c =
     let k = c.args.self.now in
     let within = (grid_of k).1 (k.depth % 8) (omega arith) in
     let next = side_next k.depth (k.depth % 8) c.requires (omega arith) in
-    let e : c.side-at.result ≡ side (suc k.depth) (k.depth % 8) = rw add-one at c.side-at.ensures.value in
+    let e : c.side_at.result ≡ side (suc k.depth) (k.depth % 8) = rw add-one at c.side_at.ensures.value in
     omega arith
 
-pub invariant-of-result : goal.invariant-of-result
-invariant-of-result c =
+pub invariant_of-result : goal.invariant_of-result
+invariant_of-result c =
     let k = c.args.self.now in
-    (on_grid_upper _ _ (box_of k) (upper_is k.depth c.side-at.result k.corner (omega arith) c.side-at.ensures.value) c.requires (grid_of k), tt)
+    (on_grid_upper _ _ (box_of k) (upper_is k.depth c.side_at.result k.corner (omega arith) c.side_at.ensures.value) c.requires (grid_of k), tt)
 
 pub returns : goal.returns
 returns c =
     let k = c.args.self.now in
-    upper_is k.depth c.side-at.result k.corner (omega arith) c.side-at.ensures.value
+    upper_is k.depth c.side_at.result k.corner (omega arith) c.side_at.ensures.value

@@ -12,7 +12,7 @@ pub recount-requires : goal.recount-requires
 recount-requires c =
     let f = c.args.self.now in
     let t = table f.slots in
-    let did = admitted_says t _ c.args.slot c.args.fibre c.args.values.now c.in-ok-admit.ensures in
+    let did = admitted_says t _ c.args.slot c.args.fibre c.args.values.now c.in_ok-admit.ensures in
     record {
       rules = rules_from_lawful _ _ f.rules_hold;
       room = omega (arith, f.len_fits);
@@ -20,11 +20,11 @@ recount-requires c =
       fits = λ x l. right_few f.len (node_at f.nodes) (counts_at f.nodes) t (right_says _ _ _ _ f.counts_hold) x c.args.fibre l did.1;
     }
 
-pub invariant-of-self-2 : goal.invariant-of-self-2
-invariant-of-self-2 c =
+pub invariant_of-self-2 : goal.invariant_of-self-2
+invariant_of-self-2 c =
     let f = c.args.self.now in
     let t = table f.slots in
-    let did = admitted_says t _ c.args.slot c.args.fibre c.args.values.now c.in-ok-admit.ensures in
+    let did = admitted_says t _ c.args.slot c.args.fibre c.args.values.now c.in_ok-admit.ensures in
     let shape = c.recount.ensures.shape in (
       f.len_fits,
       (

@@ -7,8 +7,8 @@ use Rattle.drawing.specs.Held.{held_in}
 use Rattle.field.proofs.Redrawn.{drawn_lawful, drawn_right, empty_plan, empty_of_fibre}
 use Rattle.field.proofs.state.Field.new.Goals as goal
 
-pub invariant-of-result : goal.invariant-of-result
-invariant-of-result c =
+pub invariant_of-result : goal.invariant_of-result
+invariant_of-result c =
     let d = c.draw-len.ensures in
     let xs = c.new-slots.result in
     let ns = c.draw-len.new.nodes in

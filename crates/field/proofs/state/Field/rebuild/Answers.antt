@@ -1,8 +1,8 @@
 use Rattle.field.proofs.Redrawn.{drawn_lawful, drawn_right}
 use Rattle.field.proofs.state.Field.rebuild.Goals as goal
 
-pub invariant-of-self : goal.invariant-of-self
-invariant-of-self c =
+pub invariant_of-self : goal.invariant_of-self
+invariant_of-self c =
     let d = c.draw-self.ensures in
     let xs = c.args.self.now.slots in
     let ns = c.draw-self.new.nodes in

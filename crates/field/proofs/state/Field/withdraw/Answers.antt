@@ -18,12 +18,12 @@ recount-requires c =
       fits = λ x l. right_few f.len (node_at f.nodes) (counts_at f.nodes) (table f.slots) (right_says _ _ _ _ f.counts_hold) x c.fibre.result l c.fibre.ensures.coded;
     }
 
-pub invariant-of-self-in-Some : goal.invariant-of-self-in-Some
-invariant-of-self-in-Some c =
+pub invariant_of-self-in-Some : goal.invariant_of-self-in-Some
+invariant_of-self-in-Some c =
     let f = c.args.self.now in
     let t = table f.slots in
     let z = c.args.slot in
-    let did = withdrawn_says t _ z c.in-ok-withdraw.ensures in
+    let did = withdrawn_says t _ z c.in_ok-withdraw.ensures in
     let shape = c.recount.ensures.shape in
     let p = point c.in-Some.sample in
     let got = c.in-Some.ensures in

@@ -5,11 +5,11 @@ use Rattle.samples.specs.Slots.{table, held, legal, point, Point}
 use Rattle.samples.proofs.Tabled.{set_table}
 use Rattle.samples.proofs.slots.Slots.admit.Goals as goal
 
-pub returns-then-is-full : goal.returns-then-is-full
-returns-then-is-full c =
+pub returns-then-is_full : goal.returns-then-is_full
+returns-then-is_full c =
     let xs = c.args.self.now in
     let s = c.args.slot in
-    let h : held (table xs) s ≡ true = sym c.if-is-full.ensures in
+    let h : held (table xs) s ≡ true = sym c.if-is_full.ensures in
     let ok : legal s c.args.fibre c.args.values.now ≡ true = and_from _ _ (lt-ltb s 256 (omega arith)) (sym c.in-Some.ensures.test) in
     grind (arith, nat_tests)
 
@@ -17,7 +17,7 @@ pub returns : goal.returns
 returns c =
     let xs = c.args.self.now in
     let s = c.args.slot in
-    let h : held (table xs) s ≡ false = sym c.if-is-full.ensures in
+    let h : held (table xs) s ≡ false = sym c.if-is_full.ensures in
     let ok : legal s c.args.fibre c.args.values.now ≡ true = and_from _ _ (lt-ltb s 256 (omega arith)) (sym c.in-Some.ensures.test) in
     let w = set_table xs s (Some c.in-Some.sample) in
     let v = c.in-Some.ensures.value in

@@ -13,14 +13,14 @@ as_bit false = refl
 next : (c : goal.After-from-count) → c.loop-slot.count + c.from-count.result ≡ count (held (table c.args.self.now)) (c.loop-slot.slot + 1)
 next c =
     let more = count_more (held (table c.args.self.now)) c.loop-slot.slot in
-    let one = c.from-count.ensures ∙ as_bit c.is-full.result ∙ ap bit c.is-full.ensures in
+    let one = c.from-count.ensures ∙ as_bit c.is_full.result ∙ ap bit c.is_full.ensures in
     omega arith
 
 pub loop-slot-init : goal.loop-slot-init
 loop-slot-init c = sym (count_zero (held (table c.args.self.now)))
 
-pub overflow-add-count : goal.overflow-add-count
-overflow-add-count c =
+pub overflow_add-count : goal.overflow_add-count
+overflow_add-count c =
     let few = count_le (held (table c.args.self.now)) (c.loop-slot.slot + 1) in
     let sum = next c in
     search rules

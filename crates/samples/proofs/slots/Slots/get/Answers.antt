@@ -13,4 +13,4 @@ pub returns : goal.returns
 returns c =
     let xs = c.args.self.now in
     let l : c.args.slot < length xs.cells = omega arith in
-    through c.as-ref.result ∙ ap (option_map point) c.as-ref.ensures.value ∙ sym (at_table xs c.args.slot _ l)
+    through c.as_ref.result ∙ ap (option_map point) c.as_ref.ensures.value ∙ sym (at_table xs c.args.slot _ l)

@@ -4,8 +4,8 @@ use Rattle.samples.proofs.Tabled.{set_table}
 use Rattle.std.proofs.lemmas.Bool.Decides.{nat_tests}
 use Rattle.samples.proofs.slots.Slots.withdraw.Goals as goal
 
-pub returns-then-not-is-full : goal.returns-then-not-is-full
-returns-then-not-is-full c =
+pub returns-then-not-is_full : goal.returns-then-not-is_full
+returns-then-not-is_full c =
     let xs = c.args.self.now in
     let s = c.args.slot in
     let h : held (table xs) s ≡ false = cc in
