@@ -1,5 +1,6 @@
 // Samples in 256 slots, and the exact verdict over them.
 #![tactic(auto)]
+
 mod candidate;
 mod refusal;
 mod sample;

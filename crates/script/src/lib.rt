@@ -1,5 +1,6 @@
 // A script: its measure, and then its commands, line by line.
 #![tactic(auto)]
+
 ghost use Rattle.script.specs.Scripts.{Opens, Tells};
 ghost use Rattle.script.specs.Steps.{FirstLine};
 
