@@ -1,5 +1,6 @@
 // Boxes over the bands, and the nodes of a tree of boxes.
 #![tactic(auto)]
+
 mod bounds;
 mod node;
 

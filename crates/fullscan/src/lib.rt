@@ -51,7 +51,7 @@ fn answer_lines<M: Measure>(
     mut script: Script,
     out: &mut String,
 ) -> Result<(), AllocError>
-    ensures { OnOk result (Printed (weighed measure.now) (joined measure.now) (text_left script.entry) (string_bytes out.old) (string_bytes out.new)) }
+    ensures { OnOk result (Printed (M.weighed measure.now) (M.joined measure.now) (text_left script.entry) (string_bytes out.old) (string_bytes out.new)) }
 {
     let mut slots = Slots::new();
     while let Some(line) = script.next_line() {

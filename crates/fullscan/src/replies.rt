@@ -19,7 +19,7 @@ pub fn reply<M: Measure>(
     slots: &mut Slots,
     line: Result<Command, Unreadable>,
 ) -> Answer
-    ensures { (table slots.new, result) ≡ reply_rule (weighed measure.now) (joined measure.now) (table slots.old) line }
+    ensures { (table slots.new, result) ≡ reply_rule (M.weighed measure.now) (M.joined measure.now) (table slots.old) line }
 {
     match line {
         Ok(
@@ -62,7 +62,7 @@ fn judge<M: Measure>(
     den: u16,
     reading: &[u16; BANDS],
 ) -> Answer
-    ensures { result ≡ (if ratio_ok num den then judged (verdict_rule (weighed measure.now) (joined measure.now) (table slots.now) reading.now k) else Answer.Refused OutOfRange) }
+    ensures { result ≡ (if ratio_ok num den then judged (verdict_rule (M.weighed measure.now) (M.joined measure.now) (table slots.now) reading.now k) else Answer.Refused OutOfRange) }
 {
     if den < MIN_DEN || num < den {
         return Answer::Refused(Refusal::OutOfRange);

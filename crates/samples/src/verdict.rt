@@ -26,8 +26,8 @@ pub fn exact_verdict<M: Measure>(
     reading: &[u16; BANDS],
     k: u16,
 ) -> Result<u8, Refusal>
-    ensures value { result ≡ verdict_rule (weighed measure.now) (joined measure.now) (table slots.now) reading.now k }
-    ensures exact { IfOk result (λ f. Exact (weighed measure.now) (joined measure.now) (table slots.now) reading.now k f) }
+    ensures value { result ≡ verdict_rule (M.weighed measure.now) (M.joined measure.now) (table slots.now) reading.now k }
+    ensures exact { IfOk result (λ f. Exact (M.weighed measure.now) (M.joined measure.now) (table slots.now) reading.now k f) }
 {
     if k < MIN_K || k > MAX_K || Reading::new(reading).is_none() {
         return Err(Refusal::OutOfRange);
@@ -46,7 +46,7 @@ fn nearest_votes<M: Measure>(
     k: u16,
 ) -> [u16; CODES]
     requires { k ≤ samples (table slots.now) }
-    ensures { (f : ℕ) → f < 8 → slice_index result f ≡ votes (weighed measure.now) (joined measure.now) (table slots.now) reading.now k f }
+    ensures { (f : ℕ) → f < 8 → slice_index result f ≡ votes (M.weighed measure.now) (M.joined measure.now) (table slots.now) reading.now k f }
 {
     let mut room = [Candidate { weight: 0, slot: 0 }; SLOTS];
     let mut heap = Heap::new(&mut room);
@@ -71,7 +71,7 @@ fn weigh_all<M: Measure>(
 )
     requires empty { content heap.old ≡ [] }
     requires room { 256 ≤ room heap.old }
-    ensures holds { Holds (content heap.new) (weight_at (weighed measure.now) (joined measure.now) (table slots.now) reading.now) (held (table slots.now)) 256 }
+    ensures holds { Holds (content heap.new) (weight_at (M.weighed measure.now) (M.joined measure.now) (table slots.now) reading.now) (held (table slots.now)) 256 }
     ensures heaped { Heaped sooner (content heap.new) }
 {
     for slot in 0..SLOTS {

@@ -24,7 +24,7 @@ overflow_add-votes g c =
     let t = table c.args.slots.now in
     let w : ℕ → ℕ = weight_at (g.M.Measure.weighed c.args.measure.now) (g.M.Measure.joined c.args.measure.now) t c.args.reading.now in
     let f = c.fibre.result in
-    let few = count_le (λ s. first (held t) (nearer w) 256 c.loop-turn.-turn s && eqb (fibre_at t s) f) 256 in
+    let few = count_le (λ s. first (held t) (nearer w) 256 c.loop-turn._turn s && eqb (fibre_at t s) f) 256 in
     let is = c.loop-turn.invariant.tallied f c.fibre.ensures.coded in
     search rules
 
@@ -32,7 +32,7 @@ pub loop-turn-preserved : goal.loop-turn-preserved
 loop-turn-preserved g c =
     let t = table c.args.slots.now in
     let w : ℕ → ℕ = weight_at (g.M.Measure.weighed c.args.measure.now) (g.M.Measure.joined c.args.measure.now) t c.args.reading.now in
-    let i = c.loop-turn.-turn in
+    let i = c.loop-turn._turn in
     let vs = c.loop-turn.votes in
     let xs = content c.loop-turn.heap in
     let ys = content c.pop.new.self in
@@ -62,5 +62,5 @@ pub returns : goal.returns
 returns g c f l =
     let t = table c.args.slots.now in
     let w : ℕ → ℕ = weight_at (g.M.Measure.weighed c.args.measure.now) (g.M.Measure.joined c.args.measure.now) t c.args.reading.now in
-    let end : c.loop-turn.-turn ≡ c.args.k = omega arith in
+    let end : c.loop-turn._turn ≡ c.args.k = omega arith in
     c.loop-turn.invariant.tallied f l ∙ ap (λ n. tally (first (held t) (nearer w) 256 n) (fibre_at t) 256 f) end

@@ -8,4 +8,4 @@ abbrev pub invariant-loop-turn : goal.invariant-loop-turn
 invariant-loop-turn g l =
     let m = g.M.Measure in
     let t = table l.slots in
-    Voting (weight_at (m.weighed l.measure) (m.joined l.measure) t l.reading) (held t) (fibre_at t) l.-turn (content l.heap) l.votes
+    Voting (weight_at (m.weighed l.measure) (m.joined l.measure) t l.reading) (held t) (fibre_at t) l._turn (content l.heap) l.votes

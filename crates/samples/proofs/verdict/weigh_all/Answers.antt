@@ -30,9 +30,9 @@ loop-slot-preserved g c =
           let pushed : Pushed (content h) (room h) (candidate w i) (content k) x.push.result =
           subst (λ (n : ℕ). Pushed (content h) (room h) (record { weight = n; slot = i }) (content k) x.push.result) weight x.push.ensures.cases
           in
-          gathered_at x.heap_is refl
+          gathered_at x.heap-is refl
           (gathered_push h w (held t) k x.push.result i (omega arith) c.loop-slot.invariant (held_some t i x₀ got) pushed x.push.ensures.room (x.push.ensures.heaped c.loop-slot.invariant.heaped))
-      | in_default x ↦ gathered_at x.heap_is refl (gathered_skip h w (held t) i c.loop-slot.invariant (ap is_some (sym x.in_default.ensures)))
+      | in_default x ↦ gathered_at x.heap-is refl (gathered_skip h w (held t) i c.loop-slot.invariant (ap is_some (sym x.in_default.ensures)))
     ]
 
 pub returns : goal.returns

@@ -13,7 +13,7 @@ returns-in_default c = opened_none c.args.text.now (omega arith) c.in_default.en
 
 pub returns-in_err-measure : goal.returns-in_err-measure
 returns-in_err-measure c =
-    let refusal = err_from_is_err_and c.from-residual.result c.from-residual.ensures.1 in
+    let refusal = err_from_is_err_and c.from_residual.result c.from_residual.ensures.1 in
     rw refusal.1
     (opened_other c.args.text.now c.in-Some.line.now (lines (text_left c.take_line.new.self)) (omega arith) c.in-Some.ensures.0 c.in_err-measure.ensures)
 

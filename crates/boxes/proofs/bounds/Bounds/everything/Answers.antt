@@ -5,7 +5,7 @@ use Rattle.boxes.proofs.bounds.Bounds.everything.Goals as goal
 
 pub invariant_of-result : goal.invariant_of-result
 unfolding is_on_grid side halved
-invariant_of-result c = (refl, tt)
+invariant_of-result c = record { on_grid = refl }
 
 pub returns : goal.returns
 returns c = zeros_box

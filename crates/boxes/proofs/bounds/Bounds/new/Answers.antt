@@ -15,4 +15,4 @@ returns-then-not-is_step c =
 
 pub invariant_of-result : goal.invariant_of-result
 invariant_of-result c =
-    (on_grid_all c.args.depth c.args.corner.now (omega arith) (λ b l. c.loop-band.invariant b (omega arith)), tt)
+    record { on_grid = on_grid_all c.args.depth c.args.corner.now (omega arith) (λ b l. c.loop-band.invariant b (omega arith)) }

@@ -17,7 +17,7 @@ overflow_add-corner c =
 pub invariant_of-result : goal.invariant_of-result
 invariant_of-result c =
     let k = c.args.self.now in
-    (on_grid_upper _ _ (box_of k) (upper_is k.depth c.side_at.result k.corner (omega arith) c.side_at.ensures.value) c.requires (grid_of k), tt)
+    record { on_grid = on_grid_upper _ _ (box_of k) (upper_is k.depth c.side_at.result k.corner (omega arith) c.side_at.ensures.value) c.requires (grid_of k) }
 
 pub returns : goal.returns
 returns c =

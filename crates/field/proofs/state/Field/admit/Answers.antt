@@ -25,10 +25,9 @@ invariant_of-self-2 c =
     let f = c.args.self.now in
     let t = table f.slots in
     let did = admitted_says t _ c.args.slot c.args.fibre c.args.values.now c.in_ok-admit.ensures in
-    let shape = c.recount.ensures.shape in (
-      f.len_fits,
-      (
-        rules_upheld f.len f.nodes c.recount.new.nodes shape f.rules_hold,
-        (admit_upheld f.len f.nodes c.recount.new.nodes shape t _ c.args.slot f.counts_hold did.0 (length_table f.slots) c.args.fibre c.args.values.now did.2 did.3 c.recount.ensures.counts, tt),
-      ),
-    )
+    let shape = c.recount.ensures.shape in
+    record {
+      len_fits = f.len_fits;
+      rules_hold = rules_upheld f.len f.nodes c.recount.new.nodes shape f.rules_hold;
+      counts_hold = admit_upheld f.len f.nodes c.recount.new.nodes shape t _ c.args.slot f.counts_hold did.0 (length_table f.slots) c.args.fibre c.args.values.now did.2 did.3 c.recount.ensures.counts;
+    }

@@ -12,7 +12,11 @@ invariant_of-result c =
     let d = c.draw-len.ensures in
     let xs = c.new-slots.result in
     let ns = c.draw-len.new.nodes in
-    (d.bound, (drawn_lawful xs ns _ d.value d.numbered d.tallied, (drawn_right xs ns _ d.value d.numbered d.tallied, tt)))
+    record {
+      len_fits = d.bound;
+      rules_hold = drawn_lawful xs ns _ d.value d.numbered d.tallied;
+      counts_hold = drawn_right xs ns _ d.value d.numbered d.tallied;
+    }
 
 pub returns : goal.returns
 returns c =

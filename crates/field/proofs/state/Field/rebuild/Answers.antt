@@ -6,4 +6,8 @@ invariant_of-self c =
     let d = c.draw-self.ensures in
     let xs = c.args.self.now.slots in
     let ns = c.draw-self.new.nodes in
-    (d.bound, (drawn_lawful xs ns _ d.value d.numbered d.tallied, (drawn_right xs ns _ d.value d.numbered d.tallied, tt)))
+    record {
+      len_fits = d.bound;
+      rules_hold = drawn_lawful xs ns _ d.value d.numbered d.tallied;
+      counts_hold = drawn_right xs ns _ d.value d.numbered d.tallied;
+    }

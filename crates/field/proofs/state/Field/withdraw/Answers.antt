@@ -29,14 +29,10 @@ invariant_of-self-in-Some c =
     let got = c.in-Some.ensures in
     let fibre : c.fibre.result ≡ fibre_at t z = c.fibre.ensures.value ∙ sym (fibre_some t z p got) in
     let values : c.values.result.now ≡ values_at t z = c.values.ensures ∙ sym (values_some t z p got) in
-    let low : ℕ → ℕ → ℕ → List ℕ → ℕ = λ x g n vs. lowered (node_at f.nodes) (counts_at f.nodes) n (entries vs) x g in (
-      f.len_fits,
-      (
-        rules_upheld f.len f.nodes c.recount.new.nodes shape f.rules_hold,
-        (
-          withdraw_upheld f.len f.nodes c.recount.new.nodes shape t _ z f.counts_hold did.0 (length_table f.slots) did.1 did.2
-              (λ x g l. c.recount.ensures.counts x g l ∙ ap (λ n. low x g n c.values.result.now) fibre ∙ ap (low x g (fibre_at t z)) values),
-          tt,
-        ),
-      ),
-    )
+    let low : ℕ → ℕ → ℕ → List ℕ → ℕ = λ x g n vs. lowered (node_at f.nodes) (counts_at f.nodes) n (entries vs) x g in
+    record {
+      len_fits = f.len_fits;
+      rules_hold = rules_upheld f.len f.nodes c.recount.new.nodes shape f.rules_hold;
+      counts_hold = withdraw_upheld f.len f.nodes c.recount.new.nodes shape t _ z f.counts_hold did.0 (length_table f.slots) did.1 did.2
+          (λ x g l. c.recount.ensures.counts x g l ∙ ap (λ n. low x g n c.values.result.now) fibre ∙ ap (low x g (fibre_at t z)) values);
+    }

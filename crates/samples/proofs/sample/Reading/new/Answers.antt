@@ -14,4 +14,4 @@ loop-value-preserved c = below_more 1024 c.args.values.now c.loop-value.value-in
 pub invariant_of-result : goal.invariant_of-result
 invariant_of-result c =
     let vs = c.args.values.now in
-    (ap (below 1024) (sym (take_all c.loop-value.value-index vs (omega arith))) ∙ c.loop-value.invariant, tt)
+    record { within = ap (below 1024) (sym (take_all c.loop-value.value-index vs (omega arith))) ∙ c.loop-value.invariant }

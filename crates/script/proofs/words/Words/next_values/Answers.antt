@@ -9,7 +9,7 @@ loop-value-init c = gathered_begins (words_left c.args.self.now)
 
 pub returns-in_err-value : goal.returns-in_err-value
 returns-in_err-value c =
-    let refusal = err_from_is_err_and c.from-residual.result c.from-residual.ensures.1 in
+    let refusal = err_from_is_err_and c.from_residual.result c.from_residual.ensures.1 in
     rw refusal.1
     (gathered_refuses c.loop-value.value-index (words_left c.args.self.now) c.loop-value.value-items (words_left c.loop-value.self) (omega arith) c.loop-value.invariant c.in_err-value.ensures)
 
