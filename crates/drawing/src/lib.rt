@@ -1,5 +1,6 @@
 // Draws the tree over the samples held.
 #![tactic(auto)]
+
 ghost use Rattle.std.specs.Prelude.{◌≡◌, ◌≤◌};
 ghost use Rattle.boxes.specs.Views.{node_at, counts_at};
 ghost use Rattle.trees.specs.Boxes.{everything};

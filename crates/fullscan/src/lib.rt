@@ -1,5 +1,6 @@
 // A whole script, answered by weighing every sample.
 #![tactic(auto)]
+
 ghost use Rattle.std.specs.Prelude.{◌≡◌, [], ◌∷◌, ◌++◌, IfOk, string_bytes, OnOk};
 ghost use Rattle.script.specs.Scripts.{text_left};
 ghost use Rattle.fullscan.specs.Answers.{line_of, print};
