@@ -1,9 +1,9 @@
 -- A list parted in place: what passes a test moves to the front, slot by slot. Assumes nothing.
 use Rattle.std.proofs.Common.{◌≡◌, ℕ, ◌+◌, ◌<◌, ◌≤◌, Bool, true, false, not, ◌&&◌, List, length, get_or, take, drop, sum_by, sym, refl, ap, ◌∙◌, subst, ⊎_elim, arith, length-drop, length-take}
 use Rattle.std.specs.List.Sorted.{IsPermutation}
-use Rattle.std.specs.List.{AllByRecursion as All}
+use Rattle.std.specs.List.{AllByRecursion}
 use Rattle.std.proofs.ByRecursion.{All-from_get_or}
-use Rattle.std.proofs.lemmas.List.Filters.{SwapPlaces}
+use Rattle.std.specs.List.{SwappedAt}
 use Rattle.std.proofs.lemmas.List.{get_or-take, get_or-drop}
 use Rattle.std.proofs.lemmas.List.Sorted.{sum_by-IsPermutation}
 use Rattle.std.proofs.lemmas.List.Sums.{sum_by-take-drop}
@@ -39,7 +39,7 @@ module _ (p : ℕ → Bool) (xs : List ℕ) where
     fails = λ k l b. ⊎_elim (λ (s : k ≡ i). ap (λ n. p (get_or ys n 0)) s ∙ e) (λ n. h.fails k l (omega arith)) (cases_eq k i);
   }
 
-  pub parting_swap : (ys zs : List ℕ) (m i : ℕ) → Parting p xs ys m i → p (get_or ys i 0) ≡ true → IsPermutation ys zs → length zs ≡ length ys → SwapPlaces ys zs m i → Parting p xs zs (m + 1) (i + 1)
+  pub parting_swap : (ys zs : List ℕ) (m i : ℕ) → Parting p xs ys m i → p (get_or ys i 0) ≡ true → IsPermutation ys zs → length zs ≡ length ys → SwappedAt ys zs m i → Parting p xs zs (m + 1) (i + 1)
   parting_swap ys zs m i h e shuffled long places = record {
     same = λ f. sum_by-IsPermutation f ys zs shuffled ∙ h.same f;
     long = long ∙ h.long;
@@ -61,16 +61,16 @@ module _ (p : ℕ → Bool) (xs : List ℕ) where
   parting_all ys m i h end = record {
     within = omega (arith, h.behind);
     front = λ q.
-        let all : All (λ s. bit (q s) ≡ bit (p s && q s)) (take m ys) = All-from_get_or (λ s. bit (q s) ≡ bit (p s && q s)) (take m ys) 0 (λ k l. first q k (front_within k l)) in
-        let none : All (λ s. bit (p s && q s) ≡ 0) (drop m ys) = All-from_get_or (λ s. bit (p s && q s) ≡ 0) (drop m ys) 0 (λ k l. second q k (rest_within k l)) in
+        let all : AllByRecursion (λ s. bit (q s) ≡ bit (p s && q s)) (take m ys) = All-from_get_or (λ s. bit (q s) ≡ bit (p s && q s)) (take m ys) 0 (λ k l. first q k (front_within k l)) in
+        let none : AllByRecursion (λ s. bit (p s && q s) ≡ 0) (drop m ys) = All-from_get_or (λ s. bit (p s && q s) ≡ 0) (drop m ys) 0 (λ k l. second q k (rest_within k l)) in
         let a = sum_by_ext (λ s. bit (q s)) (λ s. bit (p s && q s)) (take m ys) all in
         let b = sum_by_none (λ s. bit (p s && q s)) (drop m ys) none in
         let c = sum_by-take-drop (λ s. bit (p s && q s)) ys m in
         let d = h.same (λ s. bit (p s && q s)) in
         omega arith;
     rest = λ q.
-        let all : All (λ s. bit (q s) ≡ bit (not (p s) && q s)) (drop m ys) = All-from_get_or (λ s. bit (q s) ≡ bit (not (p s) && q s)) (drop m ys) 0 (λ k l. third q k (rest_within k l)) in
-        let none : All (λ s. bit (not (p s) && q s) ≡ 0) (take m ys) = All-from_get_or (λ s. bit (not (p s) && q s) ≡ 0) (take m ys) 0 (λ k l. fourth q k (front_within k l)) in
+        let all : AllByRecursion (λ s. bit (q s) ≡ bit (not (p s) && q s)) (drop m ys) = All-from_get_or (λ s. bit (q s) ≡ bit (not (p s) && q s)) (drop m ys) 0 (λ k l. third q k (rest_within k l)) in
+        let none : AllByRecursion (λ s. bit (not (p s) && q s) ≡ 0) (take m ys) = All-from_get_or (λ s. bit (not (p s) && q s) ≡ 0) (take m ys) 0 (λ k l. fourth q k (front_within k l)) in
         let a = sum_by_ext (λ s. bit (q s)) (λ s. bit (not (p s) && q s)) (drop m ys) all in
         let b = sum_by_none (λ s. bit (not (p s) && q s)) (take m ys) none in
         let c = sum_by-take-drop (λ s. bit (not (p s) && q s)) ys m in

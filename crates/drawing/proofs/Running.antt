@@ -1,13 +1,13 @@
 -- Lists of slots, by the sums of tests over them: one slot more, and what a list holds. Assumes nothing.
 use Rattle.std.proofs.Common.{◌≡◌, ℕ, ◌+◌, ◌<◌, ◌≤◌, Bool, true, false, ◌&&◌, eqb, ◌≢◌, List, [], ◌∷◌, ◌++◌, length, get_or, take, set, sum_by, sym, refl, ap, arith}
-use Rattle.std.specs.List.{AllByRecursion as All}
+use Rattle.std.specs.List.{AllByRecursion}
 use Rattle.std.proofs.lemmas.List.{length-take-le, take_all, get_or-set_same, get_or-set_other}
 use Rattle.std.proofs.lemmas.List.Sums.{sum_by-cons, sum_by_push, sum_by_more}
 use Rattle.ranking.specs.Counts.{bit, count}
 use Rattle.ranking.proofs.Counted.{count_zero, count_more, count_ext}
 use Rattle.drawing.specs.Runs.{Holds}
 
-pub sum_by_ext : (f g : ℕ → ℕ) (xs : List ℕ) → All (λ x. f x ≡ g x) xs → sum_by f xs ≡ sum_by g xs
+pub sum_by_ext : (f g : ℕ → ℕ) (xs : List ℕ) → AllByRecursion (λ x. f x ≡ g x) xs → sum_by f xs ≡ sum_by g xs
 sum_by_ext f g [] h = refl
 sum_by_ext f g (x ∷ xs) h =
     let a = sum_by-cons f x xs in
@@ -16,7 +16,7 @@ sum_by_ext f g (x ∷ xs) h =
     let e = h.0 in
     omega arith
 
-pub sum_by_none : (f : ℕ → ℕ) (xs : List ℕ) → All (λ x. f x ≡ 0) xs → sum_by f xs ≡ 0
+pub sum_by_none : (f : ℕ → ℕ) (xs : List ℕ) → AllByRecursion (λ x. f x ≡ 0) xs → sum_by f xs ≡ 0
 sum_by_none f [] h = refl
 sum_by_none f (x ∷ xs) h =
     let a = sum_by-cons f x xs in

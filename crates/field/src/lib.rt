@@ -1,5 +1,6 @@
 // A field: the samples held and the tree of boxes drawn round them.
 #![tactic(auto)]
+
 mod examples;
 mod path;
 mod state;

@@ -156,7 +156,7 @@ build_split-build_box-second-requires t c =
     let e = split_size a k c.requires.full _ _ c.requires.parts h.value in
     let d = full_depth a k c.requires.full in
     let m = (halves_deeper a k _ _ h.value h.test c.args.run.now c.requires.ready.run).0 in
-    let r = run_halves a k _ _ h.value h.test c.args.run.now c.requires.ready.run c.part-below.new.run s.result.0.now s.result.1.now c.part-below.result c.part-below.ensures s.ensures.value s.ensures.front-len in
+    let r = run_halves a k _ _ h.value h.test c.args.run.now c.requires.ready.run c.part-below.new.run s.result.0.now s.result.1.now c.part-below.result c.part-below.ensures s.ensures.value s.ensures.front_len in
     (search rules, record { run = r.0; room = omega (arith, c.requires.ready.room); most = c.requires.ready.most })
 
 pub build_split-build_box-end-requires : goal.build_split-build_box-end-requires
@@ -169,7 +169,7 @@ build_split-build_box-end-requires t c =
     let d = full_depth a k c.requires.full in
     let m = (halves_deeper a k _ _ h.value h.test c.args.run.now c.requires.ready.run).1 in
     let u = c.build_box-second.ensures.up_to in
-    let r = run_halves a k _ _ h.value h.test c.args.run.now c.requires.ready.run c.part-below.new.run s.result.0.now s.result.1.now c.part-below.result c.part-below.ensures s.ensures.value s.ensures.front-len in
+    let r = run_halves a k _ _ h.value h.test c.args.run.now c.requires.ready.run c.part-below.new.run s.result.0.now s.result.1.now c.part-below.result c.part-below.ensures s.ensures.value s.ensures.front_len in
     (search rules, record { run = r.1; room = omega (arith, c.requires.ready.room); most = omega (arith, c.requires.ready.most) })
 
 pub build_split-overflow_cast-nodes-2 : goal.build_split-overflow_cast-nodes-2
