@@ -10,6 +10,8 @@ use Rattle.field.specs.Changes.{Goes}
 use Rattle.boxes.specs.declared.node.Kind.{Kind}
 use Rattle.boxes.specs.declared.node.Kind.TheVariants.{Leaf, Split, Shrink}
 use Rattle.boxes.specs.declared.node.Node.{Node}
+use Rattle.boxes.specs.contracts.node.Kind.{the_type}
+use denote.Enum.Bare.{sameb}
 
 -- node x, as the code read it
 read : (ns : List Node) (x : ℕ) (n : Node) → x < length ns → node_at ns x ≡ node_of (get_or ns x n)
@@ -17,6 +19,12 @@ read ns x n l = ap node_of (get_or_default ns x blank n l)
 
 read_is : (ns : List Node) (x : ℕ) (n : Node) → x < length ns → n ≡ get_or ns x n → node_at ns x ≡ node_of n
 read_is ns x n l e = read ns x n l ∙ ap node_of (sym e)
+
+-- the code's test says that a kind is not the leaf's
+pub no_leaf : (k : Kind) → false ≡ sameb the_type k Leaf → k ≡ Leaf → ⊥
+no_leaf Leaf h e = cc
+no_leaf Split h e = cc
+no_leaf Shrink h e = cc
 
 parted : (k : Kind) → (k ≡ Leaf → ⊥) → parts (kind_of k) ≡ true
 parted Leaf h = absurd (h refl)
