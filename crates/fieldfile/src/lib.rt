@@ -1,5 +1,6 @@
 // The field file: a field as bytes.
 #![tactic(auto)]
+
 mod file;
 mod outline;
 mod parts;

@@ -1,5 +1,6 @@
 // Reads a script from standard input and prints the answer to each of its lines, by weighing every sample.
 #![tactic(auto)]
+
 use fullscan::scan;
 use script::MAX_BYTES;
 use std::io::Read;
