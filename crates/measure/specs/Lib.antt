@@ -1,4 +1,3 @@
 pub mod Roots
 pub mod Weight
 pub mod Rooted
-pub mod Tables

@@ -1,6 +1,7 @@
 use Rattle.std.proofs.Common.{◌≡◌, ℕ, ◌*◌, min, sym, refl, ap, ◌∙◌, subst, arith}
 use Rattle.measure.specs.Roots.{root, Largest}
-use Rattle.measure.specs.Rooted.{roots_from_test, root_largest}
+use Rattle.measure.specs.Rooted.{root_largest}
+use Rattle.measure.proofs.Tables.{roots_from_test}
 use Rattle.measure.proofs.damped.damped_weight.Goals as goal
 
 pub entry-requires : goal.entry-requires
