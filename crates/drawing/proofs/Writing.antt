@@ -6,7 +6,7 @@ use Rattle.trees.specs.Boxes.{Box, lower, upper}
 use Rattle.trees.specs.Trees as trees
 use Rattle.trees.specs.Drawing.{Plan, stop, halve, focus, size, Is, Numbered, Tallied, of_fibre}
 use Rattle.trees.specs.Samples.{Samples}
-use Rattle.trees.proofs.Numbering.{numbered_ext, size_pos}
+use Rattle.trees.proofs.Numbering.{numbered_ext}
 use Rattle.drawing.specs.Builds.{Built}
 
 module _ (a : Samples) where

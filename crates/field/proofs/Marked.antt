@@ -1,13 +1,11 @@
 -- Counts changed node by node along a path. Assumes nothing.
-use Rattle.std.proofs.Common.{◌≡◌, ℕ, ◌+◌, ◌-◌, ◌<◌, ◌≤◌, Bool, true, false, ◌&&◌, eqb, ltb, List, [], length, get_or, set, sym, refl, ap, ◌∙◌, subst, ⊎_elim, arith, get_or-set_other, get_or-set_same}
-use Rattle.std.proofs.lemmas.List.{get_or_default}
+use Rattle.std.proofs.Common.{◌≡◌, ℕ, ◌<◌, Bool, true, false, ◌&&◌, eqb, ltb, List, length, get_or, set, sym, refl, ap, ◌∙◌, ⊎_elim, arith, get_or-set_other, get_or-set_same}
 use Rattle.std.proofs.lemmas.Bool.{cases_eq, eq-eqb, ne_eqb}
 use Rattle.std.proofs.lemmas.Bool.Decides.{nat_tests}
-use Rattle.ranking.specs.Counts.{bit}
 use Rattle.trees.specs.Samples.{raised, lowered}
 use Rattle.trees.specs.Trees.{Rules, under, next, leaf}
 use Rattle.trees.specs.Trees as trees
-use Rattle.trees.proofs.Pathed.{under_root, next_under, under_between, under_after}
+use Rattle.trees.proofs.Pathed.{under_between, under_after}
 use Rattle.boxes.specs.Views.{blank, node_of, node_at, counts_at}
 use Rattle.boxes.specs.declared.node.Node.{Node}
 use Rattle.field.specs.Changes.{moved, recounted}

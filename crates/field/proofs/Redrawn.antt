@@ -1,13 +1,11 @@
 -- What a field's type says holds of a tree that was just drawn; and an empty field's tree is one leaf. Assumes nothing.
-use Rattle.std.proofs.Common.{◌≡◌, ℕ, zero, suc, ◌<◌, ◌≤◌, true, false, ◌&&◌, eqb, List, get_or, replicate, is_some, None, sym, refl, ap, ◌∙◌, subst, arith}
-use Rattle.ranking.specs.Counts.{count}
+use Rattle.std.proofs.Common.{◌≡◌, ℕ, zero, suc, true, false, ◌&&◌, eqb, List, replicate, None, refl, ap, ◌∙◌, arith}
 use Rattle.ranking.proofs.Counted.{count_none}
-use Rattle.samples.specs.Slots.{Point, Table, table, at, held}
+use Rattle.samples.specs.Slots.{Table, table, held}
 use Rattle.samples.specs.declared.slots.Slots.{Slots}
-use Rattle.trees.specs.Boxes.{everything, covers}
-use Rattle.trees.specs.Drawing.{stop, size, lodged, many, rebuilt, of_fibre, Is, Numbered, Tallied}
+use Rattle.trees.specs.Boxes.{everything}
+use Rattle.trees.specs.Drawing.{stop, size, lodged, rebuilt, of_fibre, Numbered, Tallied}
 use Rattle.trees.specs.Lawful.{lawful, right}
-use Rattle.trees.specs.Trees.{leaf}
 use Rattle.trees.proofs.Drawn.{draw_few}
 use Rattle.trees.proofs.Rebuilt.{rebuilt_lawful, rebuilt_right}
 use Rattle.boxes.specs.Views.{node_at, counts_at}

@@ -1,13 +1,11 @@
 -- Counts that were right stay right when a sample is admitted and when one is withdrawn. Assumes nothing.
-use Rattle.std.proofs.Common.{◌≡◌, ℕ, ◌<◌, Bool, true, false, ◌&&◌, eqb, List, [], length, get_or, set, is_some, Some, None, Option, unwrap_or, sym, refl, ap, ◌∙◌, subst, ⊎_elim, arith}
+use Rattle.std.proofs.Common.{◌≡◌, ℕ, ◌<◌, true, false, List, [], length, set, is_some, Some, None, Option, unwrap_or, ap, ◌∙◌, ⊎_elim, arith}
 use Rattle.std.specs.Option.{option_map}
 use Rattle.std.proofs.lemmas.List.{get_or-set_same, get_or-set_other}
 use Rattle.std.proofs.lemmas.Bool.{cases_eq, eq-eqb, ne_eqb}
-use Rattle.std.proofs.lemmas.Bool.Decides.{nat_tests}
-use Rattle.ranking.specs.Counts.{count}
 use Rattle.ranking.proofs.Counted.{count_ext, count_le}
 use Rattle.samples.specs.Slots.{Point, Table, at, held, fibre_at, values_at}
-use Rattle.trees.specs.Samples.{Samples, lies, Right, filled, emptied, raised, lowered}
+use Rattle.trees.specs.Samples.{lies, Right, filled, emptied, raised, lowered}
 use Rattle.trees.specs.Trees.{Node, under}
 use Rattle.trees.proofs.Counting.{admit_right, withdraw_right}
 use Rattle.boxes.specs.Views.{entries}

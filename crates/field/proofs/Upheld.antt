@@ -1,9 +1,8 @@
 -- What a field's type says is kept when its counts change along a path. Assumes nothing.
-use Rattle.std.proofs.Common.{◌≡◌, ℕ, ◌<◌, true, false, List, length, set, Some, None, sym, ap, ◌∙◌, subst}
-use Rattle.samples.specs.Slots.{Point, Table, held, fibre_at, values_at}
+use Rattle.std.proofs.Common.{◌≡◌, ℕ, ◌<◌, true, false, List, length, set, Some, None, ap, ◌∙◌}
+use Rattle.samples.specs.Slots.{Table, held, fibre_at, values_at}
 use Rattle.trees.specs.Lawful.{lawful, right}
 use Rattle.trees.specs.Samples.{raised, lowered}
-use Rattle.trees.specs.Trees as trees
 use Rattle.trees.proofs.Lawfully.{right_says, right_from}
 use Rattle.boxes.specs.Views.{entries, node_at, counts_at}
 use Rattle.boxes.specs.declared.node.Node.{Node}

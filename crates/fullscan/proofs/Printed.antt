@@ -1,5 +1,5 @@
 -- One answer more is printed. Assumes nothing.
-use Rattle.std.proofs.Common.{◌≡◌, ℕ, List, [], ◌∷◌, ◌++◌, Result, sym, ap, ◌∙◌, append_assoc}
+use Rattle.std.proofs.Common.{◌≡◌, ℕ, List, [], ◌∷◌, ◌++◌, Result, ap, ◌∙◌, append_assoc}
 use Rattle.samples.specs.Slots.{Table}
 use Rattle.script.specs.declared.Command.{Command}
 use Rattle.script.specs.declared.Unreadable as unreadable

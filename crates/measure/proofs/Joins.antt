@@ -1,5 +1,5 @@
 -- One band more of the joined weights; and that they never fall as the gaps grow. Assumes nothing.
-use Rattle.std.proofs.Common.{◌≡◌, ℕ, zero, suc, ◌+◌, ◌-◌, ◌<◌, ◌≤◌, ap, arith}
+use Rattle.std.proofs.Common.{◌≡◌, ℕ, zero, suc, ◌+◌, ◌-◌, ◌≤◌, ap, arith}
 use Rattle.measure.specs.Weight.{join_to, Monotone}
 
 pub join_more : (w j : ℕ → ℕ → ℕ) (g : ℕ → ℕ) (b : ℕ) → 1 ≤ b → j (join_to w j g (b - 1)) (w b (g b)) ≡ join_to w j g (b + 1 - 1)

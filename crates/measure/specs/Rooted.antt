@@ -1,9 +1,9 @@
 -- The root is the largest number whose square is at most n, the only one, and never falls. Assumes nothing.
 -- (It stands here and not in proofs/ since the law of the damped measure cites it.)
-use Rattle.std.specs.Prelude.{◌≡◌, ℕ, zero, suc, ◌+◌, ◌*◌, ◌<◌, ◌≤◌, cond, nat_le}
+use Rattle.std.specs.Prelude.{◌≡◌, ℕ, zero, suc, ◌+◌, ◌*◌, ◌<◌, ◌≤◌, nat_le}
 use Rattle.std.proofs.Common.{⊎_elim, mul-le-mul, arith}
 use Rattle.std.proofs.lemmas.Bool.{cases_lt, cond_both, leb-true, leb-false}
-use Rattle.measure.specs.Roots.{root, raised, Largest}
+use Rattle.measure.specs.Roots.{root, Largest}
 
 -- the larger of two squares is of the larger number
 below_square : (a b n : ℕ) → a * a ≤ n → n < (b + 1) * (b + 1) → a ≤ b

@@ -1,12 +1,12 @@
 -- A heap that takes in the candidate of each slot with a sample, slot by slot. Assumes nothing.
-use Rattle.std.proofs.Common.{◌≡◌, ℕ, ◌+◌, ◌<◌, ◌≤◌, Bool, true, false, ◌&&◌, List, [], ◌∷◌, ◌++◌, length, get_or, Ok, Err, sum_by, Result, sym, ap, ◌∙◌, subst, arith, length-append}
+use Rattle.std.proofs.Common.{◌≡◌, ℕ, ◌+◌, ◌<◌, ◌≤◌, Bool, true, false, ◌&&◌, List, [], ◌∷◌, ◌++◌, length, Ok, Err, sum_by, Result, sym, ap, ◌∙◌, subst, arith, length-append}
 use Rattle.std.specs.List.Sorted.{IsPermutation}
 use Rattle.std.proofs.lemmas.List.Sums.{sum_by_push}
 use Rattle.std.proofs.lemmas.List.Sorted.{sum_by-IsPermutation, length_permutation}
 use Rattle.heap.specs.Contents.{content, room, Pushed}
 use Rattle.heap.specs.Order.{Heaped}
 use Rattle.heap.specs.declared.Heap.{Heap}
-use Rattle.ranking.specs.Counts.{bit, count}
+use Rattle.ranking.specs.Counts.{bit}
 use Rattle.ranking.proofs.Counted.{count_zero, count_more}
 use Rattle.samples.specs.Candidates.{candidate, Holds, sooner}
 use Rattle.samples.specs.declared.candidate.Candidate.{Candidate}

@@ -1,13 +1,12 @@
 -- A heap from which the candidates are picked in order: the next has the next rank. Assumes nothing.
-use Rattle.std.proofs.Common.{◌≡◌, ℕ, zero, suc, ◌+◌, ◌<◌, ◌≤◌, Bool, true, false, ◌&&◌, eqb, ltb, leb, List, [], ◌∷◌, ◌++◌, length, get_or, sum_by, sym, refl, ap, ◌∙◌, subst, ⊎_elim, arith}
+use Rattle.std.proofs.Common.{◌≡◌, ℕ, suc, ◌+◌, ◌<◌, Bool, true, false, ◌&&◌, eqb, List, [], ◌∷◌, ◌++◌, length, get_or, sum_by, sym, refl, ap, ◌∙◌, subst, ⊎_elim, arith}
 use Rattle.std.specs.List.Sorted.{IsPermutation}
 use Rattle.std.proofs.lemmas.List.Sums.{sum_by-cons}
 use Rattle.std.proofs.lemmas.List.Sorted.{IsPermutation-sym}
 use Rattle.std.proofs.lemmas.Bool.{cases_Bool, and_from}
 use Rattle.std.proofs.lemmas.Bool.Decides.{nat_tests}
-use Rattle.heap.specs.Order.{Heaped}
 use Rattle.ranking.specs.Counts.{bit, count}
-use Rattle.ranking.specs.Ranks.{lower, nearer, rank, first}
+use Rattle.ranking.specs.Ranks.{lower, nearer, rank}
 use Rattle.ranking.proofs.Counted.{count_ext, count_find, count_none, count_some}
 use Rattle.ranking.proofs.Picked.{rest, picked_rank, rest_picked}
 use Rattle.ranking.proofs.Ranked.{nearer_strict, at_rank}

@@ -1,12 +1,12 @@
 -- Votes counted while the nearest are picked: after i turns those of the first i. Assumes nothing.
-use Rattle.std.proofs.Common.{◌≡◌, ℕ, ◌+◌, ◌<◌, ◌≤◌, Bool, true, false, ◌&&◌, eqb, ltb, List, [], length, get_or, set, replicate, sym, refl, ap, ◌∙◌, subst, ⊎_elim, arith, length-set}
+use Rattle.std.proofs.Common.{◌≡◌, ℕ, ◌+◌, ◌<◌, Bool, ◌&&◌, eqb, List, length, get_or, set, sym, ap, ◌∙◌, ⊎_elim, arith, length-set}
 use Rattle.std.proofs.lemmas.List.{get_or-set_same, get_or-set_other}
 use Rattle.std.proofs.lemmas.Bool.{cases_eq, eq-eqb, ne_eqb}
 use Rattle.std.proofs.lemmas.Bool.Decides.{nat_tests}
 use Rattle.heap.specs.Order.{Heaped}
-use Rattle.ranking.specs.Counts.{bit, count}
+use Rattle.ranking.specs.Counts.{bit}
 use Rattle.ranking.specs.Majority.{tally}
-use Rattle.ranking.specs.Ranks.{nearer, rank, first}
+use Rattle.ranking.specs.Ranks.{nearer, first}
 use Rattle.ranking.proofs.Counted.{count_none}
 use Rattle.ranking.proofs.Picked.{first_picked}
 use Rattle.ranking.proofs.Ranked.{nearer_strict}

@@ -1,11 +1,10 @@
 -- Worked examples of the exact verdict, of the definitions alone. Assumes nothing.
-use Rattle.std.specs.Prelude.{◌≡◌, ℕ, ◌*◌, min, max, List, [], ◌∷◌, ◌++◌, replicate, Some, None, Ok, Err, Option, Result}
+use Rattle.std.specs.Prelude.{◌≡◌, ℕ, ◌*◌, min, max, List, [], ◌∷◌, ◌++◌, replicate, Some, None, Ok, Err, Option}
 use Rattle.measure.specs.Roots.{root}
 use Rattle.measure.specs.Weight.{held_sum}
 use Rattle.samples.specs.Slots.{Point, Table}
 use Rattle.samples.specs.Verdict.{weight_at, verdict_rule}
-use Rattle.samples.specs.declared.refusal.Refusal.{Refusal}
-use Rattle.samples.specs.declared.refusal.Refusal.TheVariants.{OutOfRange, TooFewSamples}
+use Rattle.samples.specs.declared.refusal.Refusal.TheVariants.{TooFewSamples}
 
 -- two values, and 0 in the other bands
 abbrev pair : ℕ → ℕ → List ℕ

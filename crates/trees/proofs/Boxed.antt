@@ -1,6 +1,6 @@
 -- What the sides of boxes are, and that the halves of a box cover what it covers, and nothing twice. Assumes nothing.
-use Rattle.std.proofs.Common.{◌≡◌, ℕ, zero, suc, ◌+◌, ◌-◌, ◌*◌, ◌/◌, ◌%◌, ◌^◌, ◌<◌, ◌≤◌, Bool, true, false, cond, not, ◌&&◌, ◌||◌, eqb, ltb, leb, ◌⊎◌, sym, refl, ap, ◌∙◌, inl, inr, ⊎_elim, arith}
-use Rattle.ranking.specs.Counts.{bit, count}
+use Rattle.std.proofs.Common.{◌≡◌, ℕ, zero, suc, ◌+◌, ◌-◌, ◌*◌, ◌/◌, ◌^◌, ◌<◌, ◌≤◌, Bool, true, false, cond, eqb, ltb, refl, ap, arith}
+use Rattle.ranking.specs.Counts.{bit}
 use Rattle.trees.specs.Boxes.{every, halved, side, Box, spans, covers, cut, lower, upper, Inside}
 
 pub every_at : (p : ℕ → Bool) (n b : ℕ) → every p n ≡ true → b < n → p b ≡ true

@@ -1,9 +1,8 @@
 -- Counts stay right when a sample is put in or taken out. Assumes nothing.
-use Rattle.std.proofs.Common.{◌≡◌, ℕ, zero, suc, ◌+◌, ◌-◌, ◌*◌, ◌<◌, ◌≤◌, Bool, true, false, cond, not, ◌&&◌, ◌||◌, eqb, ltb, leb, sym, refl, ap, ◌∙◌, arith}
+use Rattle.std.proofs.Common.{◌≡◌, ℕ, zero, suc, ◌+◌, ◌<◌, Bool, true, false, ◌&&◌, eqb, refl, ap, ◌∙◌, arith}
 use Rattle.ranking.specs.Counts.{bit, count}
 use Rattle.ranking.proofs.Counted.{count_less, count_ext, count_split, count_at}
-use Rattle.trees.specs.Boxes.{Alike}
-use Rattle.trees.specs.Trees.{Kind, leaf, split, shrink, Node, parts, names, Rules, choice, next, reached, under}
+use Rattle.trees.specs.Trees.{Node, parts, Rules, choice, next, reached, under}
 use Rattle.trees.specs.Samples.{Samples, Valid, lies, Right, filled, emptied, raised, lowered}
 use Rattle.trees.proofs.Pathed.{under_parts, reached_le}
 

@@ -1,13 +1,13 @@
 -- The drawn plan: its boxes are on the grid and lie in one another, and it has at most 4s - 3 nodes. Assumes nothing.
-use Rattle.std.proofs.Common.{◌≡◌, ℕ, zero, suc, ◌+◌, ◌-◌, ◌*◌, ◌%◌, ◌<◌, ◌≤◌, Bool, true, false, cond, not, ◌&&◌, ◌||◌, eqb, ltb, leb, ◌⊎◌, sym, refl, ap, ◌∙◌, inl, inr, ⊎_elim, arith}
+use Rattle.std.proofs.Common.{◌≡◌, ℕ, zero, suc, ◌+◌, ◌-◌, ◌*◌, ◌<◌, ◌≤◌, Bool, true, false, cond, eqb, ltb, ◌⊎◌, sym, refl, ap, ◌∙◌, inl, inr, ⊎_elim, arith}
 use Prim.Native.Nat.{◌∣◌}
 use native.Mathlib.Nat.{dvd_refl, dvd-zero, dvd-add, dvd_trans, mod-eq-zero_of_dvd, dvd_of_mod-eq-zero, zero-mod}
-use Rattle.ranking.specs.Counts.{bit, count}
-use Rattle.ranking.proofs.Counted.{count_imp, count_less, count_ext, count_split, count_le, none_counted}
+use Rattle.ranking.specs.Counts.{bit}
+use Rattle.ranking.proofs.Counted.{count_ext, count_split, count_le, none_counted}
 use Rattle.trees.specs.Boxes.{side, Box, covers, cut, lower, upper, Inside, Grid, everything}
 use Rattle.trees.specs.Samples.{Samples, Valid}
 use Rattle.trees.specs.Drawing.{Plan, stop, halve, focus, size, lodged, many, both, descend, deepest, few, core, boxed, draw, plan, rebuilt, Fits}
-use Rattle.trees.proofs.Boxed.{covers_at, covers_all, inside_covers, lower_inside, upper_inside, halves_cover, side_next, side_pos, side_zero}
+use Rattle.trees.proofs.Boxed.{covers_all, lower_inside, upper_inside, halves_cover, side_next, side_zero}
 
 module _ (a : Samples) where
   halves_bit : (k : Box) → k.depth < 80 → (s : ℕ) → bit (lodged a k s) ≡ bit (lodged a (lower k) s) + bit (lodged a (upper k) s)

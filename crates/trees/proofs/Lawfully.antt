@@ -1,9 +1,9 @@
 -- The tests of a tree say its rules, and the rules pass the tests. Assumes nothing.
-use Rattle.std.proofs.Common.{◌≡◌, ℕ, zero, suc, ◌+◌, ◌%◌, ◌<◌, ◌≤◌, Bool, true, false, not, ◌&&◌, ◌||◌, eqb, ltb, leb, sym, refl, ap, ◌∙◌, arith}
+use Rattle.std.proofs.Common.{◌≡◌, ℕ, zero, suc, ◌%◌, ◌<◌, ◌≤◌, true, false, ◌&&◌, ◌||◌, eqb, ltb, sym, refl, ap, ◌∙◌, arith}
 use Rattle.std.proofs.lemmas.Bool.{and_parts, and_from, eqb-true, eq-eqb, ltb-true, lt-ltb, leb-true, le-leb, both_ways}
 use Rattle.std.proofs.lemmas.Bool.Decides.{nat_tests}
 use Rattle.ranking.specs.Counts.{count}
-use Rattle.trees.specs.Boxes.{every, side, Box, lower, upper, Alike, Inside, on_step, is_on_grid}
+use Rattle.trees.specs.Boxes.{side, Box, lower, upper, Alike, Inside, on_step, is_on_grid}
 use Rattle.trees.specs.Lawful.{alike, within, inside, childless, whole, sound, linked, is_leaf, nested, nested_by, lawful, counted, right}
 use Rattle.trees.specs.Samples.{Samples, lies, Right}
 use Rattle.trees.specs.Trees.{Kind, leaf, split, shrink, Node, parts, names, Rules}

@@ -1,11 +1,11 @@
 -- A numbered plan keeps the rules of a tree. Assumes nothing.
-use Rattle.std.proofs.Common.{◌≡◌, ℕ, zero, suc, ◌+◌, ◌-◌, ◌*◌, ◌%◌, ◌<◌, ◌≤◌, Bool, true, false, cond, not, ◌&&◌, ◌||◌, eqb, ltb, leb, ◌⊎◌, sym, refl, ap, ◌∙◌, subst, inl, inr, ⊎_elim, arith}
-use Rattle.ranking.specs.Counts.{bit, count}
-use Rattle.ranking.proofs.Counted.{count_imp, count_less, count_ext, count_split, count_le}
-use Rattle.trees.specs.Boxes.{side, Box, covers, cut, lower, upper, Inside, Alike, Grid, everything}
-use Rattle.trees.specs.Trees.{Kind, leaf, split, shrink, Node, parts, names, Rules, choice, next, reached, under}
+use Rattle.std.proofs.Common.{◌≡◌, ℕ, suc, ◌+◌, ◌<◌, ◌≤◌, Bool, true, false, cond, ◌&&◌, eqb, ltb, leb, ◌⊎◌, sym, refl, ap, ◌∙◌, subst, inl, inr, ⊎_elim, arith}
+use Rattle.ranking.specs.Counts.{count}
+use Rattle.ranking.proofs.Counted.{count_ext}
+use Rattle.trees.specs.Boxes.{side, Box, cut, lower, upper, Inside, Alike, Grid, everything}
+use Rattle.trees.specs.Trees.{leaf, split, shrink, Node, parts, names, Rules}
 use Rattle.trees.specs.Drawing.{Plan, stop, halve, focus, size, Is, Numbered, Fits}
-use Rattle.trees.proofs.Boxed.{side_pos, side_zero}
+use Rattle.trees.proofs.Boxed.{side_pos}
 use Rattle.trees.proofs.Counting.{count_point}
 
 pub size_pos : (p : Plan) → 0 < size p

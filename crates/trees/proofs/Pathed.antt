@@ -1,10 +1,10 @@
 -- The path of values through a tree: where it goes, that it ends in one leaf, and that its boxes cover the values. Assumes nothing.
-use Rattle.std.proofs.Common.{◌≡◌, ℕ, zero, suc, ◌+◌, ◌-◌, ◌*◌, ◌/◌, ◌%◌, ◌^◌, ◌<◌, ◌≤◌, Bool, true, false, cond, not, ◌&&◌, ◌||◌, eqb, ltb, leb, ◌⊎◌, sym, refl, ap, ◌∙◌, inl, inr, ⊎_elim, arith}
+use Rattle.std.proofs.Common.{◌≡◌, ℕ, zero, suc, ◌+◌, ◌-◌, ◌<◌, ◌≤◌, Bool, true, false, cond, not, ◌&&◌, eqb, sym, refl, ap, ◌∙◌, arith}
 use Rattle.ranking.specs.Counts.{bit, count}
-use Rattle.ranking.proofs.Counted.{count_imp, count_less, count_ext, count_split}
-use Rattle.trees.specs.Boxes.{every, halved, side, Box, spans, covers, cut, lower, upper, Inside, Alike}
+use Rattle.ranking.proofs.Counted.{count_less}
+use Rattle.trees.specs.Boxes.{side, Box, covers, lower, upper, Alike}
 use Rattle.trees.specs.Trees.{Kind, leaf, split, shrink, Node, parts, names, Rules, choice, next, reached, under}
-use Rattle.trees.proofs.Boxed.{covers_at, covers_all, inside_covers, halves_cover, side_pos, side_zero}
+use Rattle.trees.proofs.Boxed.{covers_at, covers_all, halves_cover, side_zero}
 
 -- at most one number passes a test that one number passes
 pub count_two : (p : ℕ → Bool) (n x y : ℕ) → x < y → y < n → p x ≡ true → p y ≡ true → 2 ≤ count p n

@@ -1,5 +1,5 @@
 -- A tree that is numbered and counted as rebuild draws it keeps the rules, with right counts. Assumes nothing.
-use Rattle.std.proofs.Common.{◌≡◌, ℕ, ◌≤◌, true, refl}
+use Rattle.std.proofs.Common.{◌≡◌, ℕ, true, refl}
 use Rattle.trees.specs.Boxes.{everything}
 use Rattle.trees.specs.Drawing.{size, rebuilt, Numbered, Tallied}
 use Rattle.trees.specs.Lawful.{lawful, right}

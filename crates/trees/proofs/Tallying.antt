@@ -1,15 +1,15 @@
 -- The counts of a numbered plan are right. Assumes nothing.
-use Rattle.std.proofs.Common.{◌≡◌, ℕ, zero, suc, ◌+◌, ◌-◌, ◌*◌, ◌%◌, ◌<◌, ◌≤◌, Bool, true, false, cond, not, ◌&&◌, ◌||◌, eqb, ltb, leb, ◌⊎◌, sym, refl, ap, ◌∙◌, subst, inl, inr, ⊎_elim, arith}
-use Rattle.ranking.specs.Counts.{bit, count}
-use Rattle.ranking.proofs.Counted.{count_imp, count_less, count_ext, count_split, count_le, count_none}
-use Rattle.trees.specs.Boxes.{side, Box, covers, cut, lower, upper, Inside, Alike, Grid, everything}
-use Rattle.trees.specs.Trees.{Kind, leaf, split, shrink, Node, parts, names, Rules, choice, next, reached, under}
+use Rattle.std.proofs.Common.{◌≡◌, ℕ, zero, suc, ◌+◌, ◌<◌, ◌≤◌, Bool, true, false, not, ◌&&◌, ltb, leb, sym, refl, ap, ◌∙◌, subst, arith}
+use Rattle.ranking.specs.Counts.{count}
+use Rattle.ranking.proofs.Counted.{count_ext, count_none}
+use Rattle.trees.specs.Boxes.{Box, covers, lower, upper, Alike, everything}
+use Rattle.trees.specs.Trees.{Node, parts, Rules, under}
 use Rattle.trees.specs.Samples.{Samples, Valid, lies, Right}
-use Rattle.trees.specs.Drawing.{Plan, stop, halve, focus, size, lodged, many, both, few, core, boxed, draw, Is, Numbered, Fits, rebuilt, of_fibre, Tallied}
+use Rattle.trees.specs.Drawing.{Plan, stop, halve, focus, size, lodged, both, few, core, boxed, draw, Numbered, of_fibre, Tallied}
 use Rattle.trees.proofs.Boxed.{halves_cover}
 use Rattle.trees.proofs.Pathed.{child, first_named, second_named, next_first, next_second, alike_covers, under_root}
 use Rattle.trees.proofs.Drawn.{Same, core_same, few_says, everything_covers}
-use Rattle.trees.proofs.Numbering.{alike_sym, size_pos}
+use Rattle.trees.proofs.Numbering.{alike_sym}
 
 -- a core holds all the samples of its box
 abbrev pub Holds : Samples → Plan → Box → Type 0

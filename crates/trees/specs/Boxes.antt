@@ -10,7 +10,7 @@
 --   Inside j k    the box j lies in the box k and is deeper
 --   is_on_grid k     the depth is at most 80, and each corner below 1024 and a multiple of the side
 --   Grid k        the same, with what the box covers below 1024
-use Rattle.std.specs.Prelude.{◌≡◌, ℕ, zero, suc, ◌+◌, ◌-◌, ◌*◌, ◌/◌, ◌%◌, ◌^◌, ◌<◌, ◌≤◌, Bool, true, false, cond, ◌&&◌, ◌==◌, nat_le, nat_lt}
+use Rattle.std.specs.Prelude.{◌≡◌, ℕ, zero, suc, ◌+◌, ◌-◌, ◌/◌, ◌%◌, ◌^◌, ◌<◌, ◌≤◌, Bool, true, cond, ◌&&◌, ◌==◌, nat_le, nat_lt}
 
 abbrev pub every : (ℕ → Bool) → ℕ → Bool
 every p zero = true

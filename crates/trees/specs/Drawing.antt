@@ -9,7 +9,7 @@
 --   plan a k         the tree over the samples in the box k
 --   Numbered         which nodes the numbers from n on have: the parent, the whole first child, the second
 --   Tallied          the counts of those nodes
-use Rattle.std.specs.Prelude.{◌≡◌, ℕ, zero, suc, ◌+◌, ◌-◌, ◌<◌, Bool, true, false, ◌&&◌, ◌||◌, List, [], ◌∷◌, ◌++◌, ◌==◌, nat_le, nat_lt}
+use Rattle.std.specs.Prelude.{◌≡◌, ℕ, zero, suc, ◌+◌, ◌-◌, ◌<◌, Bool, true, false, ◌&&◌, ◌||◌, ◌==◌, nat_le, nat_lt}
 use Rattle.ranking.specs.Counts.{count}
 use Rattle.trees.specs.Boxes.{Box, covers, lower, upper, Alike, Inside, Grid, everything}
 use Rattle.trees.specs.Samples.{Samples}

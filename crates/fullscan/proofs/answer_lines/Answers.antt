@@ -1,4 +1,4 @@
-use Rattle.std.proofs.Common.{◌≡◌, List, [], ◌∷◌, ◌++◌, string_bytes, Result, sym, ap, ◌∙◌}
+use Rattle.std.proofs.Common.{List, ◌++◌, string_bytes, Result, sym, ap, ◌∙◌}
 use Rattle.samples.specs.Slots.{table}
 use Rattle.script.specs.Scripts.{commands, text_left}
 use Rattle.script.specs.declared.Command.{Command}

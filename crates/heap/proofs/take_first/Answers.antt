@@ -1,9 +1,9 @@
-use Rattle.std.proofs.Common.{◌≡◌, ℕ, ◌-◌, List, [], ◌∷◌, ◌++◌, length, get_or, take, drop, set, sym, ap, ◌∙◌, subst, arith}
+use Rattle.std.proofs.Common.{◌≡◌, ◌-◌, [], ◌∷◌, ◌++◌, length, get_or, take, drop, sym, ◌∙◌, subst, arith}
 use Rattle.std.specs.List.Sorted.{IsPermutation}
 use Rattle.std.proofs.lemmas.List.{get_or-take, get_or_append_left, get_or_default, length-take-le, take_at}
 use Rattle.heap.specs.Order.{above, Kept, KeptBelow}
 use Rattle.heap.proofs.Contents.{kept_same, popped}
-use Rattle.heap.proofs.Order.{Order, order}
+use Rattle.heap.proofs.Order.{order}
 use Rattle.heap.proofs.Sifts.{top_first}
 use Rattle.heap.proofs.take_first.Goals as goal
 

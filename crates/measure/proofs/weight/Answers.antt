@@ -1,4 +1,4 @@
-use Rattle.std.proofs.Common.{◌≡◌, get_or, ◌∙◌, arith}
+use Rattle.std.proofs.Common.{◌∙◌, arith}
 use Rattle.measure.specs.Weight.{gap_at}
 use Rattle.measure.proofs.Joins.{join_same, monotone}
 use Rattle.measure.proofs.weight.Goals as goal

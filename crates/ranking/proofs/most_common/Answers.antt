@@ -1,4 +1,4 @@
-use Rattle.std.proofs.Common.{◌≡◌, ℕ, ◌+◌, get_or, sym, ap, ◌∙◌, subst, arith}
+use Rattle.std.proofs.Common.{◌≡◌, ℕ, get_or, sym, ap, ◌∙◌, subst, arith}
 use Rattle.ranking.specs.Majority.{leader, Leads}
 use Rattle.ranking.proofs.Leading.{leader_more, leader_leads}
 use Rattle.ranking.proofs.most_common.Goals as goal

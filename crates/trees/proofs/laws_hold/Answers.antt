@@ -1,5 +1,4 @@
-use Rattle.std.proofs.Common.{◌≡◌, ◌-◌, refl}
-use Rattle.trees.specs.Drawing.{plan, rebuilt}
+use Rattle.std.proofs.Common.{◌-◌}
 use Rattle.trees.proofs.Boxed.{lower_inside, upper_inside, halves_cover, side_deepest}
 use Rattle.trees.proofs.Counting.{right_parts, admit_right, withdraw_right}
 use Rattle.trees.proofs.Drawn.{plan_size, rebuilt_size}

@@ -1,4 +1,3 @@
-use Rattle.std.proofs.Common.{arith}
 use Rattle.boxes.specs.Views.{entries, node_at}
 use Rattle.trees.proofs.Pathed.{under_root, next_under, ends_one}
 use Rattle.field.proofs.path.leaf_of.Goals as goal

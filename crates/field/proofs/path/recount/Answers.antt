@@ -1,9 +1,8 @@
-use Rattle.std.proofs.Common.{◌≡◌, ℕ, ◌<◌, true, sym, refl, ap, ◌∙◌, subst, arith}
-use Rattle.boxes.specs.Views.{entries, node_at, counts_at}
+use Rattle.std.proofs.Common.{◌≡◌, ℕ, true, sym, refl, ap, ◌∙◌, subst, arith}
+use Rattle.boxes.specs.Views.{entries, node_at}
 use Rattle.trees.specs.Trees as trees
 use Rattle.trees.specs.Trees.{Rules, next}
 use Rattle.trees.proofs.Pathed.{under_root, next_under}
-use Rattle.field.specs.Changes.{Goes}
 use Rattle.field.proofs.Marked.{mark_begins, mark_fresh, mark_steps, mark_ends}
 use Rattle.field.proofs.path.recount.Goals as goal
 

@@ -1,4 +1,4 @@
-use Rattle.std.proofs.Common.{◌≡◌, ℕ, ◌-◌, ◌<◌, true}
+use Rattle.std.proofs.Common.{◌≡◌, ◌-◌, ◌<◌, true}
 use Rattle.boxes.specs.Views.{entries, node_at}
 use Rattle.trees.specs.Trees.{under}
 use Rattle.field.proofs.Marked.{Marks}

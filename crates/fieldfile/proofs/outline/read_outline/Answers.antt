@@ -1,4 +1,4 @@
-use Rattle.std.proofs.Common.{◌≡◌, ℕ, ◌≤◌, true, List, length, sym, ◌∙◌, arith}
+use Rattle.std.proofs.Common.{◌≡◌, ℕ, ◌≤◌, true, List, length, sym, arith}
 use Rattle.fieldfile.specs.Outlines.{marked}
 use Rattle.fieldfile.proofs.outline.read_outline.Goals as goal
 

@@ -1,4 +1,4 @@
-use Rattle.std.proofs.Common.{◌≡◌, length, take, refl, ap, arith}
+use Rattle.std.proofs.Common.{length, refl, ap, arith}
 use Rattle.std.proofs.lemmas.List.{length-take-le, take_all}
 use Rattle.heap.proofs.Contents.{kept_from_heaped, heaped_from_kept}
 use Rattle.heap.proofs.Heap.push.Goals as goal

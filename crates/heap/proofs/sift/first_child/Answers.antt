@@ -1,6 +1,6 @@
 use Rattle.std.proofs.Common.{◌≡◌, ◌+◌, ◌*◌, get_or, sym, ap, ◌∙◌, ⊎_elim, arith}
 use Rattle.std.proofs.lemmas.Bool.{cases_eq}
-use Rattle.heap.proofs.Order.{Order, order}
+use Rattle.heap.proofs.Order.{order}
 use Rattle.heap.proofs.sift.first_child.Goals as goal
 use Rattle.heap.proofs.sift.first_child.Goals.{else-right-items-via-then-right-items+else-ahead_at, else-right-items-via-else-right-items}
 

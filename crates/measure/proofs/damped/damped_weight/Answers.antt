@@ -1,4 +1,4 @@
-use Rattle.std.proofs.Common.{◌≡◌, ℕ, ◌*◌, min, sym, refl, ap, ◌∙◌, subst, arith}
+use Rattle.std.proofs.Common.{◌≡◌, ◌*◌, min, sym, refl, ap, ◌∙◌, subst, arith}
 use Rattle.measure.specs.Roots.{root, Largest}
 use Rattle.measure.specs.Rooted.{root_largest}
 use Rattle.measure.proofs.Tables.{roots_from_test}

@@ -1,11 +1,11 @@
-use Rattle.std.proofs.Common.{◌≡◌, ℕ, ◌≤◌, Bool, true, not, leb, Ok, sym, ap, ◌∙◌, subst, arith}
+use Rattle.std.proofs.Common.{◌≡◌, ℕ, ◌≤◌, true, leb, Ok, sym, ap, ◌∙◌, subst, arith}
 use Rattle.std.proofs.lemmas.Bool.{and_from, le-leb, cond-true}
 use Rattle.ranking.specs.Majority.{leader, Leads}
 use Rattle.ranking.specs.Ranks.{nearer}
 use Rattle.ranking.proofs.Leading.{leader_leads, leader_same}
 use Rattle.ranking.proofs.Ranked.{count_first, nearer_strict}
 use Rattle.samples.specs.Slots.{table, held}
-use Rattle.samples.specs.Verdict.{samples, askable, weight_at, votes, exact}
+use Rattle.samples.specs.Verdict.{samples, askable, weight_at, votes}
 use Rattle.samples.proofs.verdict.exact_verdict.Goals as goal
 
 pub returns : goal.returns

@@ -1,4 +1,4 @@
-use Rattle.std.proofs.Common.{◌≡◌, ℕ, ◌+◌, ◌<◌, Bool, true, false, ◌&&◌, eqb, List, get_or, set, replicate, is_some, sym, refl, ap, ◌∙◌, subst, arith, rules}
+use Rattle.std.proofs.Common.{◌≡◌, ℕ, ◌+◌, ◌<◌, ◌&&◌, eqb, get_or, set, replicate, is_some, sym, refl, ap, ◌∙◌, subst, arith, rules}
 use Rattle.std.proofs.lemmas.Simd.{get_or-replicate}
 use Rattle.std.proofs.lemmas.Bool.{both_ways}
 use Rattle.heap.specs.Contents.{content}
@@ -6,7 +6,7 @@ use Rattle.ranking.specs.Majority.{tally}
 use Rattle.ranking.specs.Ranks.{nearer, first}
 use Rattle.ranking.proofs.Counted.{count_le}
 use Rattle.samples.specs.Slots.{table, held, point, fibre_at}
-use Rattle.samples.specs.Verdict.{weight_at, votes}
+use Rattle.samples.specs.Verdict.{weight_at}
 use Rattle.samples.proofs.Picking.{Picked, picked, picking_some}
 use Rattle.samples.proofs.Tabled.{fibre_some}
 use Rattle.samples.proofs.Voting.{Voting, voting_begins, voting_steps}

@@ -1,8 +1,8 @@
-use Rattle.std.proofs.Common.{◌≡◌, ℕ, false, List, is_some, sym, refl, ap, ◌∙◌, subst, arith}
+use Rattle.std.proofs.Common.{◌≡◌, ℕ, List, is_some, sym, refl, ap, ◌∙◌, subst, arith}
 use Rattle.heap.specs.Contents.{content, room, Pushed}
 use Rattle.measure.specs.Weight.{weight_of}
 use Rattle.samples.specs.Candidates.{candidate}
-use Rattle.samples.specs.Slots.{table, held, point, values_at}
+use Rattle.samples.specs.Slots.{table, held, point}
 use Rattle.samples.specs.Verdict.{weight_at}
 use Rattle.samples.proofs.Gathered.{gathered_at, gathered_none, gathered_skip, gathered_push}
 use Rattle.samples.proofs.Tabled.{held_some, values_some}

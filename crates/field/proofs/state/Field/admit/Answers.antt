@@ -1,5 +1,4 @@
 use Rattle.std.proofs.Common.{arith}
-use Rattle.std.proofs.lemmas.List.{length-map}
 use Rattle.samples.specs.Slots.{table}
 use Rattle.samples.proofs.Tabled.{admitted_says, length_table}
 use Rattle.trees.proofs.Lawfully.{rules_from_lawful, right_says}

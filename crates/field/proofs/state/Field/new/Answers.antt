@@ -1,4 +1,4 @@
-use Rattle.std.proofs.Common.{◌≡◌, ℕ, ◌<◌, sym, ap, ◌∙◌, subst}
+use Rattle.std.proofs.Common.{ap, ◌∙◌, subst}
 use Rattle.samples.specs.Slots.{table}
 use Rattle.trees.specs.Boxes.{everything}
 use Rattle.trees.specs.Drawing.{Plan, size, Numbered, Tallied}

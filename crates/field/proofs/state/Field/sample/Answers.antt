@@ -1,4 +1,4 @@
-use Rattle.std.proofs.Common.{◌≡◌, None, sym, arith}
+use Rattle.std.proofs.Common.{None, sym, arith}
 use Rattle.samples.specs.Slots.{table}
 use Rattle.samples.proofs.Tabled.{length_table}
 use Rattle.std.proofs.lemmas.List.{get_or_past}

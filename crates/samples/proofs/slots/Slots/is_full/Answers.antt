@@ -1,4 +1,4 @@
-use Rattle.std.proofs.Common.{◌≡◌, ◌<◌, length, sym, ◌∙◌, arith}
+use Rattle.std.proofs.Common.{◌<◌, length, arith}
 use Rattle.samples.proofs.Tabled.{held_table}
 use Rattle.samples.proofs.slots.Slots.is_full.Goals as goal
 

@@ -1,4 +1,4 @@
-use Rattle.std.proofs.Common.{◌≡◌, Bool, true, false, None, sym, ap, ◌∙◌, arith}
+use Rattle.std.proofs.Common.{◌≡◌, true, false, None, arith}
 use Rattle.samples.specs.Slots.{table, held}
 use Rattle.samples.proofs.Tabled.{set_table}
 use Rattle.std.proofs.lemmas.Bool.Decides.{nat_tests}
