@@ -1,8 +1,9 @@
 -- The root is the largest number whose square is at most n, the only one, and never falls. Assumes nothing.
 -- (It stands here and not in proofs/ since the law of the damped measure cites it.)
-use Rattle.std.specs.Prelude.{◌≡◌, ℕ, zero, suc, ◌+◌, ◌*◌, ◌<◌, ◌≤◌, nat_le}
+use Rattle.std.specs.Prelude.{◌≡◌, ℕ, zero, suc, ◌+◌, ◌*◌, ◌<◌, ◌≤◌}
 use Rattle.std.proofs.Common.{⊎_elim, mul-le-mul, arith}
-use Rattle.std.proofs.lemmas.Bool.{cases_lt, cond_both, leb-true, leb-false}
+use Rattle.std.proofs.lemmas.Bool.{cases_lt}
+use Rattle.std.proofs.lemmas.Bool.Decides.{nat_tests}
 use Rattle.measure.specs.Roots.{root, Largest}
 
 -- the larger of two squares is of the larger number
@@ -17,18 +18,12 @@ next_square s = omega arith
 root_low : (n : ℕ) → root n * root n ≤ n
 unfolding root
 root_low zero = omega arith
-root_low (suc n) =
-    let t = root n in
-    cond_both (nat_le ((t + 1) * (t + 1)) (suc n)) (t + 1) t (λ r. r * r ≤ suc n) (λ e. leb-true _ _ e) (λ e. omega (arith, root_low n))
+root_low (suc n) = let i = root_low n in grind (arith, nat_tests)
 
 root_high : (n : ℕ) → n < (root n + 1) * (root n + 1)
 unfolding root
 root_high zero = omega arith
-root_high (suc n) =
-    let t = root n in
-    cond_both (nat_le ((t + 1) * (t + 1)) (suc n)) (t + 1) t (λ r. suc n < (r + 1) * (r + 1))
-    (λ e. omega (arith, root_high n, next_square (t + 1)))
-    (λ e. leb-false _ _ e)
+root_high (suc n) = let i = root_high n in let k = next_square (root n + 1) in grind (arith, nat_tests)
 
 pub root_only : (t n : ℕ) → t * t ≤ n → n < (t + 1) * (t + 1) → t ≡ root n
 root_only t n low high =

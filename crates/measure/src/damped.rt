@@ -1,11 +1,10 @@
 // The damped measure: a gap weighs the root of 1024 times it, by a table that ends at gap 1023.
 ghost use Rattle.std.specs.Prelude.{◌≡◌, ℕ, ◌*◌, ◌<◌, min};
-ghost use Rattle.measure.specs.Weight.{held_sum};
 ghost use Rattle.measure.specs.Roots.{Largest, Roots, root};
-ghost use Rattle.std.proofs.Common.{arith, rules};
+ghost use Rattle.std.proofs.Common.{arith};
 ghost use Rattle.measure.specs.Rooted.{root_rises};
 
-use super::Measure;
+use super::Additive;
 use super::roots::{ENTRIES, ROOTS};
 
 // The last gap that the table tells apart.
@@ -29,23 +28,15 @@ fn entry(table: &[u16; ENTRIES], gap: u16) -> u16
     requires roots { Roots table.now }
     ensures { result ≡ root (1024 * gap) }
 {
-    table[gap as usize]
+    table[usize::from(gap)]
 }
 
-impl Measure for Damped {
-    ghost weighed = { λ _ _ g. root (1024 * min g 1023) };
+impl Additive for Damped {
+    ghost weight = { λ g. root (1024 * min g 1023) };
 
-    ghost joined = { λ _. held_sum };
+    ghost rises = { λ g h le. root_rises _ _ (omega arith) };
 
-    ghost weigh_rises = { λ m b g h le. root_rises _ _ (omega arith) };
-
-    ghost join_rises = { Prim.search rules };
-
-    fn weigh(&self, _band: u8, gap: u16) -> u32 {
+    fn weight(gap: u16) -> u32 {
         u32::from(damped_weight(gap))
-    }
-
-    fn join(&self, u: u32, v: u32) -> u32 {
-        u.saturating_add(v)
     }
 }

@@ -5,6 +5,8 @@ ghost use Rattle.std.specs.Prelude.{◌≡◌, ℕ, ◌*◌, ◌<◌, ◌≤◌,
 ghost use Rattle.measure.specs.Weight.{held_sum, gap_at, join_to, weight_of, Monotone};
 ghost use Rattle.std.proofs.Common.{rules, mul-le-mul};
 
+use std::array;
+
 mod damped;
 mod roots;
 
@@ -31,6 +33,16 @@ pub trait Measure {
     ghost join_rises: { (m : Self) (u v s t : ℕ) → u ≤ s → v ≤ t → joined m u v ≤ joined m s t };
 }
 
+// What a measure owes whose weights add and that weighs a gap alike in every band: the weight of a gap.
+trait Additive {
+    ghost weight: { ℕ → ℕ };
+
+    fn weight(gap: u16) -> u32
+        ensures { result ≡ weight gap };
+
+    ghost rises: { (g h : ℕ) → g ≤ h → weight g ≤ weight h };
+}
+
 // The gap itself; weights add.
 #[derive(Clone, Copy)]
 pub struct Block;
@@ -55,57 +67,56 @@ pub fn weight<M: Measure>(m: &M, x: &[u16; BANDS], y: &[u16; BANDS]) -> u32
 pub fn join_gaps<M: Measure>(m: &M, gaps: &[u16; BANDS]) -> u32
     ensures { result ≡ join_to (M.weighed m.now) (M.joined m.now) (λ b. slice_index gaps.now b) 7 }
 {
-    let mut joined = m.weigh(0, gaps[0]);
-    for band in 1..BANDS {
-        joined = m.join(joined, m.weigh(band as u8, gaps[band]));
-    }
-    joined
+    (1..BANDS as u8)
+        .zip(&gaps[1..])
+        .fold(m.weigh(0, gaps[0]), |joined, (band, gap)| {
+            m.join(joined, m.weigh(band, *gap))
+        })
 }
 
 // The absolute difference in each band.
 pub fn gaps(x: &[u16; BANDS], y: &[u16; BANDS]) -> [u16; BANDS]
     ensures { (b : ℕ) → b < 8 → slice_index result b ≡ gap_at x.now y.now b }
 {
-    let mut gaps = [0; BANDS];
-    for band in 0..BANDS {
-        gaps[band] = x[band].abs_diff(y[band]);
-    }
-    gaps
+    array::from_fn(|band| x[band].abs_diff(y[band]))
 }
 
-impl Measure for Block {
-    ghost weighed = { λ _ _ g. g };
+// Added weights are held at the largest weight.
+impl<A: Additive> Measure for A {
+    ghost weighed = { λ _ _. A.weight };
 
     ghost joined = { λ _. held_sum };
 
-    ghost weigh_rises = { Prim.search rules };
+    ghost weigh_rises = { λ _ _. A.rises };
 
     ghost join_rises = { Prim.search rules };
 
     fn weigh(&self, _band: u8, gap: u16) -> u32 {
+        A::weight(gap)
+    }
+
+    fn join(&self, u: u32, v: u32) -> u32 {
+        u.saturating_add(v)
+    }
+}
+
+impl Additive for Block {
+    ghost weight = { λ g. g };
+
+    ghost rises = { λ _ _ le. le };
+
+    fn weight(gap: u16) -> u32 {
         u32::from(gap)
     }
-
-    fn join(&self, u: u32, v: u32) -> u32 {
-        u.saturating_add(v)
-    }
 }
 
-impl Measure for Square {
-    ghost weighed = { λ _ _ g. g * g };
+impl Additive for Square {
+    ghost weight = { λ g. g * g };
 
-    ghost joined = { λ _. held_sum };
+    ghost rises = { λ _ _ le. mul-le-mul le le };
 
-    ghost weigh_rises = { λ m b g h le. mul-le-mul le le };
-
-    ghost join_rises = { Prim.search rules };
-
-    fn weigh(&self, _band: u8, gap: u16) -> u32 {
+    fn weight(gap: u16) -> u32 {
         u32::from(gap) * u32::from(gap)
-    }
-
-    fn join(&self, u: u32, v: u32) -> u32 {
-        u.saturating_add(v)
     }
 }
 

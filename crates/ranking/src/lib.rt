@@ -4,6 +4,8 @@
 ghost use Rattle.std.specs.Prelude.{◌≡◌, slice_index};
 ghost use Rattle.ranking.specs.Majority.{leader, Leads};
 
+use std::cmp::Reverse;
+
 // How many codes there are.
 pub const CODES: usize = 8;
 
@@ -12,11 +14,8 @@ pub fn most_common(votes: &[u16; CODES]) -> u8
     ensures value { result ≡ leader (λ j. slice_index votes.now j) 8 }
     ensures leads { Leads (λ j. slice_index votes.now j) 8 result }
 {
-    let mut best = 0;
-    for code in 1..CODES {
-        if votes[best] < votes[code] {
-            best = code;
-        }
-    }
-    best as u8
+    // `min_by_key` keeps the first of several that are equal, and `max_by_key` would keep the last.
+    (0..CODES as u8)
+        .min_by_key(|code| Reverse(votes[usize::from(*code)]))
+        .unwrap()
 }

@@ -1,23 +1,14 @@
-use Rattle.std.proofs.Common.{◌≡◌, ℕ, ◌-◌, get_or, ap, ◌∙◌, arith}
-use Rattle.measure.specs.Weight.{join_to}
-use Rattle.measure.proofs.Joins.{join_more}
+use Rattle.std.proofs.Common.{rules, refl, ◌∙◌, arith}
+use Rattle.std.proofs.lemmas.Iterator.{YieldsList-from_range, YieldsList-from_slice, YieldsList-from_zip}
+use Rattle.std.proofs.lemmas.Iterator.Consumers.{fold_from_yields_List}
+use Rattle.measure.proofs.Joins.{join_all}
 use Rattle.measure.proofs.join_gaps.Goals as goal
-
-pub loop-band-init : goal.loop-band-init
-unfolding join_to
-loop-band-init g c = cc
-
-pub loop-band-preserved : goal.loop-band-preserved
-loop-band-preserved g c =
-    let m = c.args.m.now in
-    let w = g.M.Measure.weighed m in
-    let j = g.M.Measure.joined m in
-    let e = join_more w j (λ b. get_or c.args.gaps.now b 0) c.loop-band.band (omega arith) in
-    cc
 
 pub returns : goal.returns
 returns g c =
-    let m = c.args.m.now in
-    let at : ℕ → ℕ = join_to (g.M.Measure.weighed m) (g.M.Measure.joined m) (λ b. get_or c.args.gaps.now b 0) in
-    let end : c.loop-band.band - 1 ≡ 7 = omega arith in
-    c.loop-band.invariant ∙ ap at end
+    let w = g.M.Measure.weighed c.args.m.now in
+    let j = g.M.Measure.joined c.args.m.now in
+    let bands = YieldsList-from_range 1 8 7 c.zip.ensures.first refl in
+    let rest = YieldsList-from_slice _ c.zip.ensures.second.0 in
+    fold_from_yields_List _ (λ u p. j u (w p.0 p.1)) _ _ c.fold.ensures.ran (YieldsList-from_zip bands rest) (λ a x b q k. search rules)
+    ∙ join_all w j c.args.gaps.now _ (omega arith) c.weigh.ensures

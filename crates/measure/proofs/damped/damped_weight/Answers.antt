@@ -5,7 +5,7 @@ use Rattle.measure.proofs.Tables.{roots_from_test}
 use Rattle.measure.proofs.damped.damped_weight.Goals as goal
 
 pub entry-requires : goal.entry-requires
-entry-requires c = record { within = omega arith; roots = roots_from_test _ tt refl }
+entry-requires c = record { within = omega arith; roots = roots_from_test _ refl refl }
 
 pub returns : goal.returns
 returns c =
