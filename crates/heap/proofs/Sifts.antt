@@ -3,7 +3,8 @@ use Rattle.std.proofs.Common.{◌≡◌, ℕ, zero, suc, ◌<◌, ◌≤◌, Boo
 use Rattle.std.proofs.lemmas.Bool.{cases_eq}
 use Rattle.std.proofs.lemmas.List.Edits.{Swapped}
 use Rattle.heap.specs.Order.{above}
-use Rattle.heap.proofs.Order.{Order}
+use Rattle.std.specs.Cmp.{IsStrictWeakOrder}
+use Rattle.heap.proofs.Order.{itself}
 
 module _ {X : Type 0} (lt : X → X → Bool) (n : ℕ) (f : ℕ → X) where
   -- of n items, none but the one at a place comes before the one above it
@@ -18,10 +19,10 @@ module _ {X : Type 0} (lt : X → X → Bool) (n : ℕ) (f : ℕ → X) where
   abbrev pub Over : ℕ → Type 0
   Over at = (k : ℕ) → 0 < k → k < n → above k ≡ at → 0 < at → lt (f k) (f (above at)) ≡ false
 
-module _ {X : Type 0} (lt : X → X → Bool) (o : Order lt) (n : ℕ) where
+module _ {X : Type 0} (lt : X → X → Bool) (o : IsStrictWeakOrder lt) (n : ℕ) where
   pub rise_but : (f g : ℕ → X) (at : ℕ) → Swapped f g at (above at) → 0 < at → at < n → But lt n f at → Over lt n f at → lt (f at) (f (above at)) ≡ true → But lt n g (above at)
   rise_but f g at s pos lim but over t k p l ne =
-      ⊎_elim (λ e. let h = o.back _ _ t in let e₁ = ap g e ∙ s.0 in let e₂ = ap (λ i. g (above i)) e ∙ s.1 in cc)
+      ⊎_elim (λ e. let h = o.one_way _ _ t in let e₁ = ap g e ∙ s.0 in let e₂ = ap (λ i. g (above i)) e ∙ s.1 in cc)
       (λ ne'.
       let e₁ = s.2 k ne' ne in
       ⊎_elim (λ e. let h = over k p l e pos in let e₂ = ap g e ∙ s.0 in cc)
@@ -31,7 +32,7 @@ module _ {X : Type 0} (lt : X → X → Bool) (o : Order lt) (n : ℕ) where
       (λ e.
       let e₂ = ap g e ∙ s.1 in
       let h' : lt (f k) (f (above at)) ≡ false = ap (λ i. lt (f k) (f i)) (sym e) ∙ h in
-      let r = o.through (f at) (f (above at)) (f k) (o.back _ _ t) h' in
+      let r = o.chain (f k) (f (above at)) (f at) h' (o.one_way _ _ t) in
       cc)
       (λ nu'. let e₂ = s.2 (above k) nu nu' in cc)
       (cases_eq (above k) (above at)))
@@ -47,7 +48,7 @@ module _ {X : Type 0} (lt : X → X → Bool) (o : Order lt) (n : ℕ) where
       (λ ne.
       let e₁ = s.2 k ne (omega arith) in
       let h' : lt (f k) (f a) ≡ false = ap (λ i. lt (f k) (f i)) (sym e) ∙ but k p l ne in
-      let r = o.through (f (above a)) (f a) (f k) h h' in
+      let r = o.chain (f k) (f a) (f (above a)) h' h in
       cc)
       (cases_eq k at)
 
@@ -57,7 +58,7 @@ module _ {X : Type 0} (lt : X → X → Bool) (o : Order lt) (n : ℕ) where
       ⊎_elim
       (λ e.
       let e₂ = ap g e ∙ s.0 in
-      ⊎_elim (λ q. let e₁ = ap g q ∙ s.1 in let h = o.back _ _ t in cc)
+      ⊎_elim (λ q. let e₁ = ap g q ∙ s.1 in let h = o.one_way _ _ t in cc)
       (λ nk. let e₁ = s.2 k (omega arith) nk in let h = least k p l e in cc)
       (cases_eq k c))
       (λ nu.
@@ -84,11 +85,11 @@ module _ {X : Type 0} (lt : X → X → Bool) (o : Order lt) (n : ℕ) where
       cc
 
   top : (f : ℕ → X) → ((k : ℕ) → 0 < k → k < n → lt (f k) (f (above k)) ≡ false) → (m k : ℕ) → k ≤ m → k < n → lt (f k) (f 0) ≡ false
-  top f kept m zero le l = o.self (f 0)
+  top f kept m zero le l = itself o (f 0)
   top f kept zero (suc k) le l = absurd (omega arith)
   top f kept (suc m) (suc k) le l =
-      o.through (f 0) (f (above (suc k))) (f (suc k)) (top f kept m (above (suc k)) (omega arith) (omega arith))
-      (kept (suc k) (omega arith) l)
+      o.chain (f (suc k)) (f (above (suc k))) (f 0) (kept (suc k) (omega arith) l)
+      (top f kept m (above (suc k)) (omega arith) (omega arith))
 
   pub top_first : (f : ℕ → X) → ((k : ℕ) → 0 < k → k < n → lt (f k) (f (above k)) ≡ false) → (k : ℕ) → k < n → lt (f k) (f 0) ≡ false
   top_first f kept k l = top f kept k k (omega arith) l

@@ -1,20 +1,20 @@
 -- A heap that takes in the candidate of each slot with a sample, slot by slot. Assumes nothing.
-use Rattle.std.proofs.Common.{◌≡◌, ℕ, ◌+◌, ◌<◌, ◌≤◌, Bool, true, false, ◌&&◌, List, [], ◌∷◌, ◌++◌, length, Ok, Err, sum_by, Result, sym, ap, ◌∙◌, subst, arith, length-append}
+use Rattle.std.proofs.Common.{◌≡◌, ℕ, zero, suc, ◌+◌, ◌-◌, ◌<◌, ◌≤◌, Bool, true, false, ◌&&◌, List, [], ◌∷◌, ◌++◌, length, Ok, Err, sum_by, Result, sym, refl, ap, ◌∙◌, subst, arith, length-append}
 use Rattle.std.specs.List.Sorted.{IsPermutation}
 use Rattle.std.proofs.lemmas.List.Sums.{sum_by_push}
 use Rattle.std.proofs.lemmas.List.Sorted.{sum_by-IsPermutation, length_permutation}
 use Rattle.heap.specs.Contents.{content, room, Pushed}
-use Rattle.heap.specs.Order.{Heaped}
+use Rattle.heap.specs.Order.{ahead, Heaped}
 use Rattle.heap.specs.declared.Heap.{Heap}
 use Rattle.ranking.specs.Counts.{bit}
 use Rattle.ranking.proofs.Counted.{count_zero, count_more}
-use Rattle.samples.specs.Candidates.{candidate, Holds, sooner}
+use Rattle.samples.specs.Candidates.{candidate, Holds, by_weight}
 use Rattle.samples.specs.declared.candidate.Candidate.{Candidate}
 
 -- the heap has the candidates of the slots below i that pass p, and room for all
 pub record Gathered (h : Heap Candidate) (w : ℕ → ℕ) (p : ℕ → Bool) (i : ℕ) : Type 0 where
   pub holds : Holds (content h) w p i
-  pub heaped : Heaped sooner (content h)
+  pub heaped : Heaped (ahead by_weight) (content h)
   pub wide : 256 ≤ room h
   pub few : length (content h) ≤ i
 
@@ -44,8 +44,20 @@ module _ (h : Heap Candidate) (w : ℕ → ℕ) (p : ℕ → Bool) where
     few = omega (arith, g.few);
   }
 
+  -- nor do the slots after it, up to n
+  skips : (i d : ℕ) → Gathered h w p i → ((s : ℕ) → i ≤ s → s < i + d → p s ≡ false) → Gathered h w p (i + d)
+  skips i zero g none = gathered_at refl (omega arith) g
+  skips i (suc d) g none =
+      let more = gathered_skip (i + d) (skips i d g (λ s l m. none s l (omega arith))) (none (i + d) (omega arith) (omega arith)) in
+      gathered_at refl (omega arith) more
+
+  pub gathered_skips : (i n : ℕ) → i ≤ n → Gathered h w p i → ((s : ℕ) → i ≤ s → s < n → p s ≡ false) → Gathered h w p n
+  gathered_skips i n l g none =
+      let end : i + (n - i) ≡ n = omega arith in
+      gathered_at refl end (skips i (n - i) g (λ s a b. none s a (omega arith)))
+
   -- the candidate of slot i was pushed
-  pub gathered_push : (k : Heap Candidate) (r : Result (Unit {0}) Candidate) (i : ℕ) → i < 256 → Gathered h w p i → p i ≡ true → Pushed (content h) (room h) (candidate w i) (content k) r → room k ≡ room h → Heaped sooner (content k) → Gathered k w p (i + 1)
+  pub gathered_push : (k : Heap Candidate) (r : Result (Unit {0}) Candidate) (i : ℕ) → i < 256 → Gathered h w p i → p i ≡ true → Pushed (content h) (room h) (candidate w i) (content k) r → room k ≡ room h → Heaped (ahead by_weight) (content k) → Gathered k w p (i + 1)
   gathered_push k (Err y) i l g e pushed same heaped = absurd (omega (arith, pushed.0, g.few, g.wide))
   gathered_push k (Ok u) i l g e pushed same heaped =
       let long = length_permutation _ _ pushed.1 in

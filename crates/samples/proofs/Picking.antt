@@ -5,12 +5,13 @@ use Rattle.std.proofs.lemmas.List.Sums.{sum_by-cons}
 use Rattle.std.proofs.lemmas.List.Sorted.{IsPermutation-sym}
 use Rattle.std.proofs.lemmas.Bool.{cases_Bool, and_from}
 use Rattle.std.proofs.lemmas.Bool.Decides.{nat_tests}
+use Rattle.heap.specs.Order.{ahead}
 use Rattle.ranking.specs.Counts.{bit, count}
 use Rattle.ranking.specs.Ranks.{lower, nearer, rank}
 use Rattle.ranking.proofs.Counted.{count_ext, count_find, count_none, count_some}
 use Rattle.ranking.proofs.Picked.{rest, picked_rank, rest_picked}
 use Rattle.ranking.proofs.Ranked.{nearer_strict, at_rank}
-use Rattle.samples.specs.Candidates.{candidate, Holds, sooner}
+use Rattle.samples.specs.Candidates.{candidate, Holds, by_weight, sooner, ahead_is_sooner}
 use Rattle.samples.specs.declared.candidate.Candidate.{Candidate}
 use Rattle.samples.proofs.Gathered.{sum_by_added}
 
@@ -60,7 +61,7 @@ module _ (w : ℕ → ℕ) (p : ℕ → Bool) where
 
     -- x was taken out, which no other comes before
     module _ (ys : List Candidate) (x : Candidate) (out : IsPermutation xs (ys ++ x ∷ []))
-        (none : (d : Candidate) (k : ℕ) → k < length xs → sooner (get_or xs k d) x ≡ false) where
+        (none : (d : Candidate) (k : ℕ) → k < length xs → ahead by_weight (get_or xs k d) x ≡ false) where
       split : (q : Candidate → Bool) → sum_by (λ c. bit (q c)) xs ≡ sum_by (λ c. bit (q c)) ys + bit (q x)
       split q = sum_by_added (λ c. bit (q c)) ys xs x (IsPermutation-sym _ _ out)
 
@@ -81,7 +82,7 @@ module _ (w : ℕ → ℕ) (p : ℕ → Bool) where
         none_nearer : (t : ℕ) → t < 256 → left i t ≡ true → nearer w t s ≡ false
         unfolding nearer
         none_nearer t b a =
-            let zero-sum = sum_none (λ c. sooner c x) xs none in
+            let zero_sum = sum_none (λ c. sooner c x) xs (λ d k l. sym (ahead_is_sooner (get_or xs k d) x) ∙ none d k l) in
             let h = holds (λ c. sooner c x) in
             let counted = count_some (λ u. left i u && sooner (candidate w u) x) 256 t b in
             let e : sooner (candidate w t) x ≡ lower (w t) t (w s) s = cc in

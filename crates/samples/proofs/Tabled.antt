@@ -1,8 +1,12 @@
 -- What the slots hold and the table of it: read at one slot, and after one slot is written. Assumes nothing.
-use Rattle.std.proofs.Common.{◌≡◌, ℕ, zero, suc, ◌<◌, Bool, true, false, cond, ltb, List, [], ◌∷◌, map, length, get_or, set, is_some, is_ok, Some, None, Ok, Err, Option, Result, unwrap_or, sym, refl, ap, ◌∙◌, arith}
+use Rattle.std.proofs.Common.{◌≡◌, ℕ, zero, suc, ◌<◌, ◌≤◌, Bool, true, false, cond, ltb, List, [], ◌∷◌, map, length, get_or, take, set, count_by, is_some, is_ok, Some, None, Ok, Err, Option, Result, unwrap_or, sym, refl, ap, ◌∙◌, ⊎_elim, add-one, arith}
 use Rattle.std.specs.Option.{option_map}
-use Rattle.std.proofs.lemmas.List.{get_or_default, length-map}
-use Rattle.std.proofs.lemmas.Bool.{true≢false}
+use Rattle.std.proofs.lemmas.List.{get_or_default, length-map, take_all}
+use Rattle.std.proofs.lemmas.List.Sums.{count_by_more_yes, count_by_more_no}
+use Rattle.std.proofs.lemmas.Bool.{true≢false, cases_Bool}
+use Rattle.ranking.specs.Counts.{bit, count}
+use Rattle.ranking.proofs.Counted.{count_ext}
+use Rattle.samples.specs.Verdict.{samples}
 use Rattle.std.proofs.lemmas.Bool.Decides.{nat_tests}
 use Rattle.samples.specs.Slots.{Point, Table, point, table, at, held, fibre_at, values_at, legal, admit_rule, withdraw_rule}
 use Rattle.samples.specs.declared.refusal.Refusal.{Refusal}
@@ -35,6 +39,23 @@ at_table xs s o l = get_d_map (option_map point) xs.cells s None ∙ ap (option_
 
 pub held_table : (xs : Slots) (s : ℕ) (o : Option Sample) → s < length xs.cells → held (table xs) s ≡ is_some (get_or xs.cells s o)
 held_table xs s o l = ap is_some (at_table xs s o l) ∙ is_some_mapped point (get_or xs.cells s o)
+
+-- the slots that hold a sample are the cells that do
+counted : {X : Type 0} (f : X → Bool) (xs : List X) (d : X) (n : ℕ) → n ≤ length xs → count (λ s. f (get_or xs s d)) n ≡ count_by f (take n xs)
+unfolding count
+counted f xs d zero l = refl
+counted f xs d (suc n) l =
+    let i = counted f xs d n (omega arith) in
+    let a = ap (λ m. count_by f (take m xs)) (add-one n) in
+    ⊎_elim (λ e. let m = count_by_more_yes f xs n d (omega arith) e in let b = ap bit e in omega arith)
+    (λ e. let m = count_by_more_no f xs n d (omega arith) e in let b = ap bit e in omega arith)
+    (cases_Bool (f (get_or xs n d)))
+
+pub samples_counted : (xs : Slots) → samples (table xs) ≡ count_by is_some xs.cells
+samples_counted xs =
+    count_ext (held (table xs)) (λ s. is_some (get_or xs.cells s None)) 256 (λ s l. held_table xs s None (omega (arith, xs.whole)))
+    ∙ counted is_some xs.cells None 256 (omega (arith, xs.whole))
+    ∙ ap (count_by is_some) (take_all 256 xs.cells (omega (arith, xs.whole)))
 
 -- the table after slot s was written
 pub set_table : (xs : Slots) (s : ℕ) (o : Option Sample) → set (table xs) s (option_map point o) ≡ map (option_map point) (set xs.cells s o)

@@ -1,5 +1,6 @@
 pub mod Candidates
 pub mod Examples
+pub mod Questions
 pub mod Ranges
 pub mod Refusals
 pub mod Slots

@@ -5,9 +5,10 @@
 --   at t s                     what slot s holds
 --   held t s                   whether it holds a sample
 --   fibre_at t s, values_at t s  the fibre code and the values of its sample
+--   NextHeld t s r n           r is the first sample from slot s on, with its slot, and n is the slot after it
 --   legal s f vs               the slot, the fibre code and the values are in range
 --   admit_rule, withdraw_rule  the table after the call, and its answer
-use Rattle.std.specs.Prelude.{ℕ, Bool, cond, ◌&&◌, List, [], map, is_some, Some, None, Ok, Err, Option, Result, nat_lt, slice_index_or, slice_set}
+use Rattle.std.specs.Prelude.{◌≡◌, ℕ, ◌+◌, ◌<◌, ◌≤◌, Bool, false, cond, ◌&&◌, List, [], map, is_some, Some, None, Ok, Err, Option, Result, nat_lt, slice_index_or, slice_set}
 use Rattle.std.specs.Option.{option_map, unwrap_or}
 use Rattle.samples.specs.Ranges.{below}
 use Rattle.samples.specs.declared.refusal.Refusal.{Refusal}
@@ -39,6 +40,11 @@ fibre_at t s = unwrap_or (option_map (λ x. x.fibre) (at t s)) 0
 
 abbrev pub values_at : Table → ℕ → List ℕ
 values_at t s = unwrap_or (option_map (λ x. x.values) (at t s)) []
+
+abbrev pub NextHeld : Table → ℕ → Option (ℕ × Point) → ℕ → Type 0
+NextHeld t s None n = (i : ℕ) → s ≤ i → i < 256 → held t i ≡ false
+NextHeld t s (Some (i, x)) n =
+    (s ≤ i) × (i < 256) × ((j : ℕ) → s ≤ j → j < i → held t j ≡ false) × (at t i ≡ Some x) × (n ≡ i + 1)
 
 abbrev pub legal : ℕ → ℕ → List ℕ → Bool
 legal s f vs = nat_lt s 256 && (nat_lt f 8 && below 1024 vs)

@@ -9,5 +9,5 @@ mod verdict;
 
 pub use refusal::Refusal;
 pub use sample::{MAX_FIBRE, MAX_VALUE, Reading, Sample};
-pub use slots::{SLOTS, Slots};
+pub use slots::{Held, SLOTS, Slots};
 pub use verdict::{MAX_K, MIN_K, exact_verdict};

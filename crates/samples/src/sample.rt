@@ -1,7 +1,9 @@
 // Readings and samples: eight values up to 1023, and a fibre code up to 7. No value of these types is out of range.
-ghost use Rattle.std.specs.Prelude.{◌≡◌, ◌<◌, true, ◌&&◌, is_some, IfSome, nat_lt};
+ghost use Rattle.std.specs.Prelude.{◌≡◌, ◌<◌, true, ◌&&◌, is_ok, MatchResult, nat_lt};
 ghost use Rattle.samples.specs.Ranges.{below};
+ghost use Rattle.samples.specs.declared.refusal.Refusal.TheVariants.{OutOfRange};
 
+use super::refusal::Refusal;
 use measure::BANDS;
 
 // The largest value of a band.
@@ -25,16 +27,15 @@ pub struct Sample {
 
 impl Reading {
     // A reading of these values, if all are in range.
-    pub fn new(values: &[u16; BANDS]) -> Option<Reading>
-        ensures test { is_some result ≡ below 1024 values.now }
-        ensures value { IfSome result (λ x. x.values ≡ values.now) }
+    pub fn new(values: &[u16; BANDS]) -> Result<Reading, Refusal>
+        ensures test { is_ok result ≡ below 1024 values.now }
+        ensures value { MatchResult result (λ x. x.values ≡ values.now) (λ e. e ≡ OutOfRange) }
     {
-        for value in values {
-            if *value > MAX_VALUE {
-                return None;
-            }
+        if values.iter().all(|value| *value <= MAX_VALUE) {
+            Ok(Reading { values: *values })
+        } else {
+            Err(Refusal::OutOfRange)
         }
-        Some(Reading { values: *values })
     }
 
     // The value of each band.
@@ -47,15 +48,15 @@ impl Reading {
 
 impl Sample {
     // A sample of this fibre and these values, if all are in range.
-    pub fn new(fibre: u16, values: &[u16; BANDS]) -> Option<Sample>
-        ensures test { is_some result ≡ (nat_lt fibre 8 && below 1024 values.now) }
-        ensures value { IfSome result (λ x. (x.fibre ≡ fibre) × (x.reading.values ≡ values.now)) }
+    pub fn new(fibre: u16, values: &[u16; BANDS]) -> Result<Sample, Refusal>
+        ensures test { is_ok result ≡ (nat_lt fibre 8 && below 1024 values.now) }
+        ensures value { MatchResult result (λ x. (x.fibre ≡ fibre) × (x.reading.values ≡ values.now)) (λ e. e ≡ OutOfRange) }
     {
         if fibre > MAX_FIBRE {
-            return None;
+            return Err(Refusal::OutOfRange);
         }
         let reading = Reading::new(values)?;
-        Some(Sample {
+        Ok(Sample {
             fibre: fibre as u8,
             reading,
         })

@@ -4,6 +4,9 @@ ghost use Rattle.std.specs.Prelude.{◌≡◌, length};
 use super::sample::Sample;
 
 mod calls;
+mod held;
+
+pub use held::Held;
 
 // How many slots there are.
 pub const SLOTS: usize = 256;

@@ -1,10 +1,11 @@
 // The exact verdict: every sample is weighed once, and the k nearest are picked from a heap.
 ghost use Rattle.std.specs.Prelude.{◌≡◌, ℕ, ◌<◌, ◌≤◌, [], IfOk, slice_index};
 ghost use Rattle.heap.specs.Contents.{content, room};
-ghost use Rattle.heap.specs.Order.{Heaped};
-ghost use Rattle.samples.specs.Candidates.{Holds, sooner};
+ghost use Rattle.heap.specs.Order.{ahead, Heaped};
+ghost use Rattle.samples.specs.Candidates.{Holds};
+ghost use Rattle.samples.specs.Questions.{weights, votes_on};
 ghost use Rattle.samples.specs.Slots.{table, held};
-ghost use Rattle.samples.specs.Verdict.{samples, weight_at, verdict_rule, votes, Exact};
+ghost use Rattle.samples.specs.Verdict.{samples, verdict_rule, Exact};
 
 use super::candidate::Candidate;
 use super::refusal::Refusal;
@@ -29,59 +30,57 @@ pub fn exact_verdict<M: Measure>(
     ensures value { result ≡ verdict_rule (M.weighed measure.now) (M.joined measure.now) (table slots.now) reading.now k }
     ensures exact { IfOk result (λ f. Exact (M.weighed measure.now) (M.joined measure.now) (table slots.now) reading.now k f) }
 {
-    if k < MIN_K || k > MAX_K || Reading::new(reading).is_none() {
+    Reading::new(reading)?;
+    if !(MIN_K..=MAX_K).contains(&k) {
         return Err(Refusal::OutOfRange);
     }
     if k > slots.count() {
         return Err(Refusal::TooFewSamples);
     }
-    Ok(most_common(&nearest_votes(measure, slots, reading, k)))
+    let question = Question {
+        measure,
+        slots,
+        reading,
+    };
+    Ok(most_common(&question.nearest_votes(k)))
 }
 
-// How many of the k nearest samples have each fibre.
-fn nearest_votes<M: Measure>(
-    measure: &M,
-    slots: &Slots,
-    reading: &[u16; BANDS],
-    k: u16,
-) -> [u16; CODES]
-    requires { k ≤ samples (table slots.now) }
-    ensures { (f : ℕ) → f < 8 → slice_index result f ≡ votes (M.weighed measure.now) (M.joined measure.now) (table slots.now) reading.now k f }
-{
-    let mut room = [Candidate { weight: 0, slot: 0 }; SLOTS];
-    let mut heap = Heap::new(&mut room);
-    weigh_all(measure, slots, reading, &mut heap);
-    let mut votes = [0u16; CODES];
-    for _turn in 0..k {
-        if let Some(next) = heap.pop() {
-            if let Some(sample) = slots.get(next.slot) {
-                votes[sample.fibre() as usize] += 1;
+// The samples, and the reading that a measure weighs them against.
+#[derive(Drop)]
+struct Question<'a, M> {
+    measure: &'a M,
+    slots: &'a Slots,
+    reading: &'a [u16; BANDS],
+}
+
+impl<M: Measure> Question<'_, M> {
+    // How many of the k nearest samples have each fibre.
+    fn nearest_votes(&self, k: u16) -> [u16; CODES]
+        requires { k ≤ samples (table self.now.slots.now) }
+        ensures { (f : ℕ) → f < 8 → slice_index result f ≡ votes_on M.weighed M.joined self.now k f }
+    {
+        let mut room = [Candidate { weight: 0, slot: 0 }; SLOTS];
+        let mut heap = Heap::new(&mut room);
+        self.weigh_all(&mut heap);
+        let mut votes = [0; CODES];
+        for next in heap.take(usize::from(k)) {
+            if let Some(sample) = self.slots.get(next.slot) {
+                votes[usize::from(sample.fibre())] += 1;
             }
         }
+        votes
     }
-    votes
-}
 
-// Weighs each sample and puts it into the heap.
-fn weigh_all<M: Measure>(
-    measure: &M,
-    slots: &Slots,
-    reading: &[u16; BANDS],
-    heap: &mut Heap<'_, Candidate>,
-)
-    requires empty { content heap.old ≡ [] }
-    requires room { 256 ≤ room heap.old }
-    ensures holds { Holds (content heap.new) (weight_at (M.weighed measure.now) (M.joined measure.now) (table slots.now) reading.now) (held (table slots.now)) 256 }
-    ensures heaped { Heaped sooner (content heap.new) }
-{
-    for slot in 0..SLOTS {
-        if let Some(sample) = slots.get(slot as u8) {
-            let values = sample.values();
-            let weight = measure::weight(measure, values, reading);
-            let _ = heap.push(Candidate {
-                weight,
-                slot: slot as u8,
-            });
+    // Weighs each sample and puts it into the heap.
+    fn weigh_all(&self, heap: &mut Heap<'_, Candidate>)
+        requires empty { content heap.old ≡ [] }
+        requires room { 256 ≤ room heap.old }
+        ensures holds { Holds (content heap.new) (weights M.weighed M.joined self.now) (held (table self.now.slots.now)) 256 }
+        ensures heaped { Heaped (ahead ⟦<Candidate as Ord>⟧.cmp) (content heap.new) }
+    {
+        for (slot, sample) in self.slots.iter() {
+            let weight = measure::weight(self.measure, sample.values(), self.reading);
+            let _ = heap.push(Candidate { weight, slot });
         }
     }
 }

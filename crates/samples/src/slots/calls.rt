@@ -1,8 +1,9 @@
 // What the slots can be asked and told.
-ghost use Rattle.std.specs.Prelude.{◌≡◌, ◌<◌, replicate, None};
+ghost use Rattle.std.specs.Prelude.{◌≡◌, ◌<◌, ◌≤◌, replicate, None, MatchResult};
 ghost use Rattle.std.specs.Option.{option_map};
 ghost use Rattle.samples.specs.Slots.{table, point, at, held, admit_rule, withdraw_rule};
 ghost use Rattle.samples.specs.Verdict.{samples};
+ghost use Rattle.samples.specs.declared.refusal.Refusal.TheVariants.{OutOfRange};
 
 use super::{SLOTS, Slots};
 use crate::refusal::Refusal;
@@ -30,25 +31,16 @@ impl Slots {
     pub fn count(&self) -> u16
         ensures { result ≡ samples (table self.now) }
     {
-        let mut count = 0;
-        for slot in 0..SLOTS {
-            count += u16::from(self.is_full(slot));
-        }
-        count
+        self.cells.iter().filter(|cell| cell.is_some()).count() as u16
     }
 
     // Puts a sample into an empty slot.
     pub fn admit(&mut self, slot: u16, fibre: u16, values: &[u16; BANDS]) -> Result<(), Refusal>
         ensures { (table self.new, result) ≡ admit_rule (table self.old) slot fibre values.now }
     {
-        let at = slot as usize;
-        if at >= SLOTS {
-            return Err(Refusal::OutOfRange);
-        }
-        let Some(sample) = Sample::new(fibre, values) else {
-            return Err(Refusal::OutOfRange);
-        };
-        if self.is_full(at) {
+        let at = index_of(slot)?;
+        let sample = Sample::new(fibre, values)?;
+        if self.cells[at].is_some() {
             return Err(Refusal::SlotFull);
         }
         self.cells[at] = Some(sample);
@@ -59,22 +51,20 @@ impl Slots {
     pub fn withdraw(&mut self, slot: u16) -> Result<(), Refusal>
         ensures { (table self.new, result) ≡ withdraw_rule (table self.old) slot }
     {
-        let at = slot as usize;
-        if at >= SLOTS {
-            return Err(Refusal::OutOfRange);
-        }
-        if !self.is_full(at) {
+        let at = index_of(slot)?;
+        if self.cells[at].is_none() {
             return Err(Refusal::SlotEmpty);
         }
         self.cells[at] = None;
         Ok(())
     }
+}
 
-    // Whether a slot holds a sample.
-    fn is_full(&self, slot: usize) -> bool
-        requires { slot < 256 }
-        ensures { result ≡ held (table self.now) slot }
-    {
-        self.cells[slot].is_some()
-    }
+// The index of a slot's cell, if there is such a slot.
+fn index_of(slot: u16) -> Result<usize, Refusal>
+    ensures { MatchResult result (λ at. (at ≡ slot) × (at < 256)) (λ e. (256 ≤ slot) × (e ≡ OutOfRange)) }
+{
+    u8::try_from(slot)
+        .map(usize::from)
+        .map_err(|_| Refusal::OutOfRange)
 }

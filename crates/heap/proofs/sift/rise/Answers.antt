@@ -1,22 +1,15 @@
 use Rattle.std.proofs.Common.{ℕ, length, get_or, sym, ap, ◌∙◌, ⊎_elim, arith}
 use Rattle.std.proofs.lemmas.List.Edits.{Swapped}
-use Rattle.std.proofs.lemmas.List.Sorted.{IsPermutation-refl, IsPermutation-trans}
+use Rattle.std.proofs.lemmas.List.Sorted.{IsPermutation-trans}
 use Rattle.std.proofs.lemmas.Bool.{cases_eq}
-use Rattle.heap.specs.Order.{above}
+use Rattle.heap.specs.Order.{above, ahead}
 use Rattle.heap.proofs.Order.{order}
 use Rattle.heap.proofs.Sifts.{rise_but, rise_over}
 use Rattle.heap.proofs.sift.rise.Goals as goal
 
-pub loop-at-init : goal.loop-at-init
-loop-at-init g c =
-    (omega arith, IsPermutation-refl _, λ was d. (λ k p l ne. was d k p (omega arith), λ k p l e pos. absurd (omega arith)))
-
-pub ahead_at-requires : goal.ahead_at-requires
-ahead_at-requires g c = record { i_within = omega arith; j_within = omega arith }
-
 pub returns-then-not-ahead_at : goal.returns-then-not-ahead_at
 returns-then-not-ahead_at g c =
-    let lt = g.T.Item.ahead in
+    let lt = ahead g.T.Ord.cmp in
     let xs = c.loop-at.items in
     record {
       heaped = λ was d k p l.
@@ -26,14 +19,10 @@ returns-then-not-ahead_at g c =
       shuffled = c.loop-at.invariant.1;
     }
 
-pub swap-requires : goal.swap-requires
-swap-requires g c = record { a_in_bounds = omega arith; b_in_bounds = omega arith }
-
 pub loop-at-preserved : goal.loop-at-preserved
 loop-at-preserved g c =
-    let m = g.T.Item in
-    let laws = g.met.T.Item in
-    let o = order m.key m.ahead laws.one laws.neither laws.carries in
+    let lt = ahead g.T.Ord.cmp in
+    let o = order g.met.T.Ord.total in
     let n = length c.args.items.now in
     let at = c.loop-at.at in
     let f = λ (d : g.row.T.Denot) (k : ℕ). get_or c.loop-at.items k d in
@@ -44,11 +33,10 @@ loop-at-preserved g c =
       omega arith,
       IsPermutation-trans _ _ _ inv.1 c.swap.ensures.permutation,
       λ was d. (
-        rise_but m.ahead o n (f d) (f' d) at (swapped d) c.loop-at-test.true inv.0 (inv.2 was d).0 (inv.2 was d).1 (sym (c.if-not-ahead_at.ensures d)),
-        rise_over m.ahead o n (f d) (f' d) at (swapped d) c.loop-at-test.true inv.0 (inv.2 was d).0,
+        rise_but lt o n (f d) (f' d) at (swapped d) c.loop-at-test.true inv.0 (inv.2 was d).0 (inv.2 was d).1 (sym (c.if-not-ahead_at.ensures d)),
+        rise_over lt o n (f d) (f' d) at (swapped d) c.loop-at-test.true inv.0 (inv.2 was d).0,
       ),
     )
 
-pub returns : goal.returns
-returns g c =
-    record { heaped = λ was d k p l. (c.loop-at.invariant.2 was d).0 k p (omega arith) (omega arith); shuffled = c.loop-at.invariant.1 }
+pub returns-clause-heaped : goal.returns-clause-heaped
+returns-clause-heaped g c was d k p l = (c.loop-at.invariant.2 was d).0 k p (omega arith) (omega arith)

@@ -1,0 +1,83 @@
+// What a heap can be asked and told.
+ghost use Rattle.std.specs.Prelude.{◌≡◌, ◌-◌, ◌<◌, Some, [], ◌∷◌, ◌++◌, length, take};
+ghost use Rattle.std.specs.Iterator.{at_most};
+ghost use Rattle.std.specs.List.Sorted.{IsPermutation};
+ghost use Rattle.heap.specs.Contents.{content, room, Pushed, Popped, First};
+ghost use Rattle.heap.specs.Order.{ahead, Heaped, Kept};
+
+use super::{Heap, sift};
+
+impl<'a, T: Ord + Copy> Heap<'a, T> {
+    // A heap that holds nothing, with room for as many items as the slice has places.
+    pub fn new(items: &'a mut [T]) -> Heap<'a, T>
+        ensures empty { content result ≡ [] }
+        ensures room { room result ≡ length items.old }
+    {
+        Heap { items, len: 0 }
+    }
+
+    // Holds one item more; a full heap gives it back and keeps what it held.
+    pub fn push(&mut self, item: T) -> Result<(), T>
+        ensures cases { Pushed (content self.old) (room self.old) item (content self.new) result }
+        ensures room { room self.new ≡ room self.old }
+        ensures heaped { Heaped (ahead T.cmp) (content self.old) → Heaped (ahead T.cmp) (content self.new) }
+    {
+        if self.len == self.items.len() {
+            return Err(item);
+        }
+        put(&mut self.items[..=self.len], item);
+        self.len += 1;
+        Ok(())
+    }
+
+    // Takes out the item that no other comes before; none where nothing is held.
+    pub fn pop(&mut self) -> Option<T>
+        ensures cases { Popped (content self.old) (content self.new) result }
+        ensures room { room self.new ≡ room self.old }
+        ensures heaped { Heaped (ahead T.cmp) (content self.old) → Heaped (ahead T.cmp) (content self.new) }
+        ensures first { Heaped (ahead T.cmp) (content self.old) → First (ahead T.cmp) (content self.old) result }
+    {
+        let last = self.len.checked_sub(1)?;
+        let first = take_first(&mut self.items[..=last]);
+        self.len = last;
+        Some(first)
+    }
+}
+
+// A heap yields the items that it holds, each before all that are left.
+impl<T: Ord + Copy> Iterator for Heap<'_, T> {
+    type Item = T;
+
+    ghost remaining = { λ h. at_most (length (content h)) };
+
+    ghost next_gives = { λ s r t. Popped (content s) (content t) r × (room t ≡ room s) × (Heaped (ahead T.cmp) (content s) → Heaped (ahead T.cmp) (content t)) × (Heaped (ahead T.cmp) (content s) → First (ahead T.cmp) (content s) r) };
+
+    fn next(&mut self) -> Option<T> {
+        self.pop()
+    }
+}
+
+// Writes an item into the last place and lets it rise.
+fn put<T: Ord + Copy>(items: &mut [T], item: T)
+    requires { 0 < length items.old }
+    ensures heaped { Kept (ahead T.cmp) items.old (length items.old - 1) → Heaped (ahead T.cmp) items.new }
+    ensures items { IsPermutation (take (length items.old - 1) items.old ++ item ∷ []) items.new }
+{
+    let last = items.len() - 1;
+    items[last] = item;
+    sift::rise(items);
+}
+
+// Takes the first item out, and lets the last one sink from its place.
+fn take_first<T: Ord + Copy>(items: &mut [T]) -> T
+    requires { 0 < length items.old }
+    ensures heaped { Heaped (ahead T.cmp) items.old → Kept (ahead T.cmp) items.new (length items.old - 1) }
+    ensures items { IsPermutation items.old (take (length items.old - 1) items.new ++ result ∷ []) }
+    ensures first { Heaped (ahead T.cmp) items.old → First (ahead T.cmp) items.old (Some result) }
+{
+    let first = items[0];
+    let last = items.len() - 1;
+    items.swap(0, last);
+    sift::sink(&mut items[..last]);
+    first
+}
