@@ -1,10 +1,11 @@
 // What a line of a script is answered.
 ghost use Rattle.std.specs.Prelude.{Some};
-ghost use Rattle.fullscan.specs.Answers.{line_of};
+ghost use Rattle.fullscan.specs.Answers.{letters_of, line_of};
 
 use samples::Refusal;
 use std::fmt;
 
+// What a line that is carried out is answered.
 #[derive(Clone, Copy)]
 pub enum Answer {
     Measured,
@@ -12,11 +13,10 @@ pub enum Answer {
     Withdrawn,
     Rebuilt,
     Verdict(u8),
-    Refused(Refusal),
 }
 
 impl fmt::Display for Answer {
-    ghost output = { λ a. Some (line_of a) };
+    ghost output = { λ a. Some (letters_of a) };
 
     fn fmt<W: fmt::Write>(&self, f: &mut fmt::Formatter<W>) -> fmt::Result {
         match *self {
@@ -25,10 +25,6 @@ impl fmt::Display for Answer {
             Answer::Withdrawn => f.write_str("W"),
             Answer::Rebuilt => f.write_str("R"),
             Answer::Verdict(fibre) => write!(f, "Q {fibre}"),
-            Answer::Refused(refusal) => {
-                let number = refusal.number();
-                write!(f, "E {number}")
-            }
         }
     }
 }

@@ -8,7 +8,7 @@ ghost use Rattle.fullscan.specs.Runs.{answers, weigh, join, Printed};
 
 use measure::{Block, Damped, Measure, Peak, Square};
 use samples::{Refusal, Slots};
-use script::{MeasureKind, Script};
+use script::{MeasureKind, Script, Unreadable};
 use std::alloc::{AllocError, Global};
 
 mod answer;
@@ -26,10 +26,10 @@ pub fn scan(heap: Global, text: &[u8]) -> Result<String, AllocError>
     let mut out = String::new(heap);
     match Script::open(text) {
         Ok((kind, script)) => {
-            put(&mut out, Answer::Measured)?;
+            put(&mut out, Ok(Answer::Measured))?;
             answer_by(kind, script, &mut out)?;
         }
-        Err(_) => put(&mut out, Answer::Refused(Refusal::Unreadable))?,
+        Err(Unreadable) => put(&mut out, Err(Refusal::Unreadable))?,
     }
     Ok(out)
 }
@@ -38,6 +38,7 @@ pub fn scan(heap: Global, text: &[u8]) -> Result<String, AllocError>
 fn answer_by(kind: MeasureKind, script: Script, out: &mut String) -> Result<(), AllocError>
     ensures { OnOk result (Printed (weigh kind) (join kind) (text_left script.entry) (string_bytes out.old) (string_bytes out.new)) }
 {
+    // Each measure is a type: so no gap is weighed by a call that is looked up while the program runs.
     match kind {
         MeasureKind::Block => answer_lines(&Block, script, out),
         MeasureKind::Square => answer_lines(&Square, script, out),
@@ -47,26 +48,22 @@ fn answer_by(kind: MeasureKind, script: Script, out: &mut String) -> Result<(), 
 }
 
 // Answers one line after the other, from empty slots on.
-fn answer_lines<M: Measure>(
-    measure: &M,
-    mut script: Script,
-    out: &mut String,
-) -> Result<(), AllocError>
+fn answer_lines<M: Measure>(measure: &M, script: Script, out: &mut String) -> Result<(), AllocError>
     ensures { OnOk result (Printed (M.weighed measure.now) (M.joined measure.now) (text_left script.entry) (string_bytes out.old) (string_bytes out.new)) }
 {
     let mut slots = Slots::new();
-    while let Some(line) = script.next_line() {
+    for line in script {
         put(out, reply(measure, &mut slots, line))?;
     }
     Ok(())
 }
 
-// Prints an answer on a line of its own.
-fn put(out: &mut String, answer: Answer) -> Result<(), AllocError>
+// Prints an answer, or the number of a refusal, on a line of its own.
+fn put(out: &mut String, answer: Result<Answer, Refusal>) -> Result<(), AllocError>
     ensures { OnOk result (string_bytes out.new ≡ string_bytes out.old ++ (line_of answer ++ 10 ∷ [])) }
 {
-    match writeln!(out, "{answer}") {
-        Ok(()) => Ok(()),
-        Err(_) => Err(AllocError),
+    match answer {
+        Ok(answer) => writeln!(out, "{answer}"),
+        Err(refusal) => writeln!(out, "E {}", u8::from(refusal)),
     }
 }

@@ -1,31 +1,37 @@
--- What the digits of a word come to, one after another. Assumes nothing.
-use Rattle.std.proofs.Common.{◌≡◌, ℕ, ◌+◌, ◌-◌, ◌*◌, ◌^◌, ◌<◌, ◌≤◌, true, false, ◌&&◌, List, length, get_or, drop, ap, ◌∙◌, add-one, arith}
-use native.Mathlib.Nat.{pow-succ'}
-use Rattle.std.specs.Char.{is_ascii_digit}
-use Rattle.std.proofs.lemmas.List.{drop_more, drop_all}
-use Rattle.std.proofs.lemmas.Bool.{and_left}
+-- The number that a word of digits writes. Assumes nothing.
+use Rattle.std.proofs.Common.{◌≡◌, ℕ, ◌<◌, ◌≤◌, true, false, List, length, Some, None, Ok, Err, Result, arith, rules}
 use Rattle.std.proofs.lemmas.Bool.Decides.{nat_tests}
-use Rattle.script.specs.Numbers.{all_digits, decimal}
+use Rattle.std.proofs.lemmas.Str.Parse.{IsNumeralModel, numerals_by_fold, parse_digits}
+use Rattle.std.specs.Char.{is_ascii_digit}
+use Rattle.std.specs.List.{list_all}
+use Rattle.std.specs.Result.{MatchResult, IsErrAnd, OkIff, result_ok}
+use Rattle.std.specs.Str.Parse.{ParsesUnsigned}
+use Rattle.script.specs.Numbers.{decimal, is_number, number_of}
 
--- One digit of a loop over the word.
+numerals : IsNumeralModel (λ ds. list_all is_ascii_digit ds ≡ true) (decimal 0)
+numerals = numerals_by_fold _ (search rules) decimal (search rules)
 
-pub decimal_more : (v i : ℕ) (w : List ℕ) → i < length w → decimal v (drop i w) ≡ decimal (10 * v + (get_or w i 0 - 48)) (drop (i + 1) w)
-decimal_more v i w h = ap (decimal v) (drop_more w i 0 h)
+number_is : (w : List ℕ) → list_all is_ascii_digit w ≡ true → 0 < length w → length w ≤ 5 → decimal 0 w < 65536 → Some (decimal 0 w) ≡ number_of w
+unfolding number_of is_number
+number_is w digits some few low = grind (arith, nat_tests)
 
-pub decimal_none : (v i : ℕ) (w : List ℕ) → length w ≤ i → decimal v (drop i w) ≡ v
-decimal_none v i w h = ap (decimal v) (drop_all i w h)
+number_not : (w : List ℕ) → list_all is_ascii_digit w ≡ true → ((0 < length w) × (decimal 0 w < 65536) → ⊥) → None ≡ number_of w
+unfolding number_of is_number
+number_not w digits not_one = grind (arith, nat_tests)
 
-pub digits_more : (i : ℕ) (w : List ℕ) → i < length w → is_ascii_digit (get_or w i 0) ≡ true → all_digits (drop i w) ≡ all_digits (drop (i + 1) w)
-digits_more i w h d = ap all_digits (drop_more w i 0 h) ∙ ap (λ t. t && all_digits (drop (i + 1) w)) d
+pub number_long : (w : List ℕ) → 5 < length w → None ≡ number_of w
+unfolding number_of is_number
+number_long w long = grind (arith, nat_tests)
 
-pub digits_stop : (i : ℕ) (w : List ℕ) → i < length w → is_ascii_digit (get_or w i 0) ≡ false → all_digits (drop i w) ≡ false
-digits_stop i w h d = ap all_digits (drop_more w i 0 h) ∙ and_left _ _ d
+pub number_other : (w : List ℕ) → list_all is_ascii_digit w ≡ false → None ≡ number_of w
+unfolding number_of is_number
+number_other w other = grind (arith, nat_tests)
 
-pub digits_none : (i : ℕ) (w : List ℕ) → length w ≤ i → all_digits (drop i w) ≡ true
-digits_none i w h = ap all_digits (drop_all i w h)
+read_by_cases : {E D : Type 0} (w : List ℕ) (r : Result ℕ E) (s : Result ℕ D) (Q : E → D → Type 0) → list_all is_ascii_digit w ≡ true → length w ≤ 5 → OkIff r ((0 < length w) × (decimal 0 w < 65536)) (decimal 0 w) → MatchResult r (λ x. s ≡ Ok x) (λ e. IsErrAnd s (Q e)) → result_ok s ≡ number_of w
+read_by_cases w (Ok x) s Q digits few h e = let is = number_is w digits h.0.0 few h.0.1 in cc
+read_by_cases w (Err e) (Ok y) Q digits few h k = absurd k
+read_by_cases w (Err e) (Err d) Q digits few h k = number_not w digits h
 
-pub digit_below_ten : (b : ℕ) → is_ascii_digit b ≡ true → b - 48 < 10
-digit_below_ten b h = grind (arith, nat_tests)
-
-pub power_more : (v i d : ℕ) → v < 10 ^ i → d < 10 → 10 * v + d < 10 ^ (i + 1)
-power_more v i d h l = let ten : 10 ^ (i + 1) ≡ 10 * 10 ^ i = ap (λ n. 10 ^ n) (add-one i) ∙ pow-succ' 10 i in omega arith
+-- What `parse` reads in a word of few digits.
+pub number_read : {E D : Type 0} (w : List ℕ) (r : Result ℕ E) (s : Result ℕ D) (Q : E → D → Type 0) → ParsesUnsigned 16 10 w r → list_all is_ascii_digit w ≡ true → length w ≤ 5 → MatchResult r (λ x. s ≡ Ok x) (λ e. IsErrAnd s (Q e)) → result_ok s ≡ number_of w
+number_read w r s Q read digits few same = read_by_cases w r s Q digits few (parse_digits numerals 16 w r read digits) same

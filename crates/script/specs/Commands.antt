@@ -31,15 +31,19 @@ rebuild_of (Some vs) = Ok Rebuild
 
 abbrev pub query_of : Option (List ℕ) → Result Command Unreadable
 query_of None = refused
-query_of (Some vs) = Ok (Query (slice_index vs 0) (slice_index vs 1) (slice_index vs 2) (drop 3 vs))
+query_of (Some vs) = Ok (Query (record { k = slice_index vs 0; num = slice_index vs 1; den = slice_index vs 2; reading = drop 3 vs }))
+
+-- The measure with a number.
+abbrev pub kind_numbered : ℕ → Result MeasureKind Unreadable
+kind_numbered n =
+    cond (n == 0) (Ok Block)
+    (cond (n == 1) (Ok Square)
+    (cond (n == 2) (Ok Peak)
+    (cond (n == 3) (Ok Damped) refused)))
 
 abbrev pub kind_of : Option (List ℕ) → Result MeasureKind Unreadable
 kind_of None = refused
-kind_of (Some vs) =
-    cond (slice_index vs 0 == 0) (Ok Block)
-    (cond (slice_index vs 0 == 1) (Ok Square)
-    (cond (slice_index vs 0 == 2) (Ok Peak)
-    (cond (slice_index vs 0 == 3) (Ok Damped) refused)))
+kind_of (Some vs) = kind_numbered (slice_index vs 0)
 
 -- A, W, R and Q; `its n` is the n numbers of the letter, if it has just so many.
 abbrev pub commanded : ℕ → (ℕ → Option (List ℕ)) → Result Command Unreadable

@@ -1,10 +1,7 @@
 -- The numbers that words write. Assumes nothing.
-use Rattle.std.specs.Prelude.{ℕ, zero, suc, ◌+◌, ◌-◌, ◌*◌, Bool, true, cond, ◌&&◌, List, [], ◌∷◌, length, Some, None, Option, nat_le}
+use Rattle.std.specs.Prelude.{ℕ, zero, suc, ◌+◌, ◌-◌, ◌*◌, Bool, cond, ◌&&◌, List, [], ◌∷◌, length, Some, None, Option, nat_le}
 use Rattle.std.specs.Char.{is_ascii_digit}
-
-abbrev pub all_digits : List ℕ → Bool
-all_digits [] = true
-all_digits (b ∷ bs) = is_ascii_digit b && all_digits bs
+use Rattle.std.specs.List.{list_all}
 
 -- The digits of v and then those of the word, in base ten.
 abbrev pub decimal : ℕ → List ℕ → ℕ
@@ -13,7 +10,7 @@ decimal v (b ∷ bs) = decimal (10 * v + (b - 48)) bs
 
 -- A number has one to five digits, and is at most 65535.
 unfoldable pub is_number : List ℕ → Bool
-is_number w = nat_le 1 (length w) && (nat_le (length w) 5 && (all_digits w && nat_le (decimal 0 w) 65535))
+is_number w = nat_le 1 (length w) && (nat_le (length w) 5 && (list_all is_ascii_digit w && nat_le (decimal 0 w) 65535))
 
 unfoldable pub number_of : List ℕ → Option ℕ
 number_of w = cond (is_number w) (Some (decimal 0 w)) None

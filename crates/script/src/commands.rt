@@ -1,59 +1,29 @@
 // What one line of a script says.
-ghost use Rattle.std.specs.Prelude.{◌≡◌};
-ghost use Rattle.script.specs.Commands.{admit_of, command_of, commanded, kind_of, measure_of, measured, query_of, rebuild_of, withdraw_of};
-ghost use Rattle.script.specs.Steps.{numbers_left};
+ghost use Rattle.std.specs.Prelude.{◌≡◌, List, ℕ};
+ghost use Rattle.script.specs.Commands.{admit_of, command_of, kind_of, measure_of, query_of, rebuild_of, withdraw_of};
+ghost use Rattle.script.specs.Numbers.{numbers};
+ghost use Rattle.script.specs.Steps.{Gives};
 
-use crate::words::Words;
-use crate::{Command, MeasureKind, Unreadable};
+use crate::words::{letter_and_words, numbers};
+use crate::{Command, MeasureKind, Query, Unreadable};
+use std::str::Split;
 
 // The measure that the first line of a script names.
 pub fn parse_measure(line: &[u8]) -> Result<MeasureKind, Unreadable>
     ensures { result ≡ measure_of line.now }
 {
-    let Some((letter, rest)) = line.split_first() else {
-        return Err(Unreadable);
-    };
-    measure_by_letter(*letter as char, Words::behind(rest))
-}
-
-// What a later line says.
-pub fn parse_command(line: &[u8]) -> Result<Command, Unreadable>
-    ensures { result ≡ command_of line.now }
-{
-    let Some((letter, rest)) = line.split_first() else {
-        return Err(Unreadable);
-    };
-    command_by_letter(*letter as char, Words::behind(rest))
-}
-
-// What the letter of a first line says with the words behind it.
-fn measure_by_letter(letter: char, words: Words) -> Result<MeasureKind, Unreadable>
-    ensures { result ≡ measured letter (numbers_left words.entry) }
-{
+    let (letter, words) = letter_and_words(line)?;
     match letter {
         'M' => kind(words),
         _ => Err(Unreadable),
     }
 }
 
-fn kind(mut words: Words) -> Result<MeasureKind, Unreadable>
-    ensures { result ≡ kind_of (numbers_left words.entry 1) }
+// What a later line says.
+pub fn parse_command(line: &[u8]) -> Result<Command, Unreadable>
+    ensures { result ≡ command_of line.now }
 {
-    let number = words.next_number()?;
-    words.end()?;
-    match number {
-        0 => Ok(MeasureKind::Block),
-        1 => Ok(MeasureKind::Square),
-        2 => Ok(MeasureKind::Peak),
-        3 => Ok(MeasureKind::Damped),
-        _ => Err(Unreadable),
-    }
-}
-
-// What the letter of a later line says with the words behind it.
-fn command_by_letter(letter: char, words: Words) -> Result<Command, Unreadable>
-    ensures { result ≡ commanded letter (numbers_left words.entry) }
-{
+    let (letter, words) = letter_and_words(line)?;
     match letter {
         'A' => admit(words),
         'W' => withdraw(words),
@@ -63,13 +33,20 @@ fn command_by_letter(letter: char, words: Words) -> Result<Command, Unreadable>
     }
 }
 
-fn admit(mut words: Words) -> Result<Command, Unreadable>
-    ensures { result ≡ admit_of (numbers_left words.entry 10) }
+// One number, which a measure has.
+fn kind(words: Split<'_, char>) -> Result<MeasureKind, Unreadable>
+    ensures { (ws : List (List ℕ)) → Gives words.entry ws → result ≡ kind_of (numbers 1 ws) }
 {
-    let slot = words.next_number()?;
-    let fibre = words.next_number()?;
-    let values = words.next_values()?;
-    words.end()?;
+    let [number] = numbers::<1>(words)?;
+    MeasureKind::try_from(number)
+}
+
+// A slot, a fibre and the eight values of a sample.
+fn admit(words: Split<'_, char>) -> Result<Command, Unreadable>
+    ensures { (ws : List (List ℕ)) → Gives words.entry ws → result ≡ admit_of (numbers 10 ws) }
+{
+    let [slot, fibre, v0, v1, v2, v3, v4, v5, v6, v7] = numbers::<10>(words)?;
+    let values = [v0, v1, v2, v3, v4, v5, v6, v7];
     Ok(Command::Admit {
         slot,
         fibre,
@@ -77,33 +54,32 @@ fn admit(mut words: Words) -> Result<Command, Unreadable>
     })
 }
 
-fn withdraw(mut words: Words) -> Result<Command, Unreadable>
-    ensures { result ≡ withdraw_of (numbers_left words.entry 1) }
+// A slot.
+fn withdraw(words: Split<'_, char>) -> Result<Command, Unreadable>
+    ensures { (ws : List (List ℕ)) → Gives words.entry ws → result ≡ withdraw_of (numbers 1 ws) }
 {
-    let slot = words.next_number()?;
-    words.end()?;
+    let [slot] = numbers::<1>(words)?;
     Ok(Command::Withdraw { slot })
 }
 
-fn rebuild(words: Words) -> Result<Command, Unreadable>
-    ensures { result ≡ rebuild_of (numbers_left words.entry 0) }
+// No number.
+fn rebuild(words: Split<'_, char>) -> Result<Command, Unreadable>
+    ensures { (ws : List (List ℕ)) → Gives words.entry ws → result ≡ rebuild_of (numbers 0 ws) }
 {
-    words.end()?;
+    let [] = numbers::<0>(words)?;
     Ok(Command::Rebuild)
 }
 
-fn query(mut words: Words) -> Result<Command, Unreadable>
-    ensures { result ≡ query_of (numbers_left words.entry 11) }
+// How many are asked, a ratio and the eight values of a reading.
+fn query(words: Split<'_, char>) -> Result<Command, Unreadable>
+    ensures { (ws : List (List ℕ)) → Gives words.entry ws → result ≡ query_of (numbers 11 ws) }
 {
-    let k = words.next_number()?;
-    let num = words.next_number()?;
-    let den = words.next_number()?;
-    let reading = words.next_values()?;
-    words.end()?;
-    Ok(Command::Query {
+    let [k, num, den, v0, v1, v2, v3, v4, v5, v6, v7] = numbers::<11>(words)?;
+    let reading = [v0, v1, v2, v3, v4, v5, v6, v7];
+    Ok(Command::Query(Query {
         k,
         num,
         den,
         reading,
-    })
+    }))
 }

@@ -1,7 +1,11 @@
 // A script: its measure, and then its commands, line by line.
 #![tactic(auto)]
 
-ghost use Rattle.script.specs.Scripts.{Opens, Tells};
+ghost use Rattle.std.specs.Prelude.{◌≡◌, ◌≤◌, length, ◌==◌};
+ghost use Rattle.std.specs.List.{position_or_len};
+ghost use Rattle.std.specs.Iterator.{at_most};
+ghost use Rattle.script.specs.Commands.{kind_numbered};
+ghost use Rattle.script.specs.Scripts.{Opens, Tells, text_left};
 ghost use Rattle.script.specs.Steps.{FirstLine};
 
 mod commands;
@@ -9,7 +13,6 @@ mod words;
 
 pub use commands::{parse_command, parse_measure};
 use measure::BANDS;
-use words::find;
 
 // A longer text is refused whole.
 pub const MAX_BYTES: usize = 65535;
@@ -25,6 +28,23 @@ pub enum MeasureKind {
     Damped,
 }
 
+impl TryFrom<u16> for MeasureKind {
+    type Error = Unreadable;
+
+    ghost try_from_gives = { λ number r. r ≡ kind_numbered number };
+
+    // The measure with this number.
+    fn try_from(number: u16) -> Result<MeasureKind, Unreadable> {
+        match number {
+            0 => Ok(MeasureKind::Block),
+            1 => Ok(MeasureKind::Square),
+            2 => Ok(MeasureKind::Peak),
+            3 => Ok(MeasureKind::Damped),
+            _ => Err(Unreadable),
+        }
+    }
+}
+
 // What a later line asks for, with its numbers as they were written.
 #[derive(Clone, Copy, PartialEq, Eq, Debug)]
 pub enum Command {
@@ -37,12 +57,16 @@ pub enum Command {
         slot: u16,
     },
     Rebuild,
-    Query {
-        k: u16,
-        num: u16,
-        den: u16,
-        reading: [u16; BANDS],
-    },
+    Query(Query),
+}
+
+// A question: the fibre of a reading by its k nearest, at the ratio of num to den.
+#[derive(Clone, Copy, PartialEq, Eq, Debug)]
+pub struct Query {
+    pub k: u16,
+    pub num: u16,
+    pub den: u16,
+    pub reading: [u16; BANDS],
 }
 
 // The refusal of a line, or of a whole text.
@@ -65,33 +89,45 @@ impl<'a> Script<'a> {
             return Err(Unreadable);
         }
         let mut script = Script { rest: text };
-        let Some(line) = script.take_line() else {
-            return Err(Unreadable);
-        };
+        let line = script.take_line().ok_or(Unreadable)?;
         let measure = parse_measure(line)?;
         Ok((measure, script))
-    }
-
-    // The next line, read or refused; none where no line is left.
-    pub fn next_line(&mut self) -> Option<Result<Command, Unreadable>>
-        ensures { Tells self.old result self.new }
-    {
-        let line = self.take_line()?;
-        Some(parse_command(line))
     }
 
     // The bytes of the next line, without its line feed.
     fn take_line(&mut self) -> Option<&'a [u8]>
         ensures { FirstLine self.old result self.new }
     {
-        let rest = self.rest;
-        if rest.is_empty() {
+        if self.rest.is_empty() {
             return None;
         }
-        let end = find(rest, LINE_FEED);
-        let next = rest.len().min(end + 1);
-        self.rest = &rest[next..];
-        Some(&rest[0..end])
+        let (line, behind) = self.rest.split_at(line_len(self.rest));
+        self.rest = behind.get(1..).unwrap_or(&[]);
+        Some(line)
+    }
+}
+
+// How many bytes the first line of a text has before its line feed.
+fn line_len(text: &[u8]) -> usize
+    ensures value { result ≡ position_or_len (λ b. b == 10) text.now }
+    ensures within { result ≤ length text.now }
+{
+    text.iter()
+        .position(|b| *b == LINE_FEED)
+        .unwrap_or(text.len())
+}
+
+impl Iterator for Script<'_> {
+    type Item = Result<Command, Unreadable>;
+
+    ghost next_gives = { Tells };
+
+    ghost remaining = { λ s. at_most (length (text_left s)) };
+
+    // The next line, read or refused; none where no line is left.
+    fn next(&mut self) -> Option<Result<Command, Unreadable>> {
+        let line = self.take_line()?;
+        Some(parse_command(line))
     }
 }
 
@@ -124,16 +160,16 @@ mod tests {
     fn last_line_without_line_feed(rt: HostRuntime) -> Result<(), Fail> {
         let (measure, mut script) = Script::open(b"M 03\n\nR")?;
         assert_eq!(rt; measure, MeasureKind::Damped);
-        assert_eq!(rt; script.next_line(), Some(Err(Unreadable)));
-        assert_eq!(rt; script.next_line(), Some(Ok(Command::Rebuild)));
-        assert_eq!(rt; script.next_line(), None);
+        assert_eq!(rt; script.next(), Some(Err(Unreadable)));
+        assert_eq!(rt; script.next(), Some(Ok(Command::Rebuild)));
+        assert_eq!(rt; script.next(), None);
         Ok(())
     }
 
     #[test]
     fn leading_zeros(rt: HostRuntime) {
         let reading = [1, 2, 3, 4, 5, 6, 7, 8];
-        let query = Command::Query {
+        let query = Query {
             k: 5,
             num: 2,
             den: 65535,
@@ -143,7 +179,10 @@ mod tests {
             parse_command(b"W 00007"),
             Ok(Command::Withdraw { slot: 7 })
         );
-        assert_eq!(rt; parse_command(b"Q 05 2 65535 1 2 3 4 5 6 7 08"), Ok(query));
+        assert_eq!(rt;
+            parse_command(b"Q 05 2 65535 1 2 3 4 5 6 7 08"),
+            Ok(Command::Query(query))
+        );
     }
 
     #[test]

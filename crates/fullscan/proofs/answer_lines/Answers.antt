@@ -13,8 +13,8 @@ loop-line-preserved g c =
     let j = g.M.Measure.joined c.args.measure.now in
     let t = table c.loop-line.slots in
     let before = string_bytes c.loop-line.out in
-    let rest = commands (text_left c.next_line.new.self) in
-    let next = c.in-Some.ensures.next in
+    let rest = commands (text_left c.next.new.self) in
+    let next = c.in-Some.ensures.steps.next in
     let all = λ (cs : List (Result Command unreadable.Unreadable)). before ++ print (replies w j t cs) in
     print_more w j before (string_bytes c.put.new.out) t (table c.reply.new.slots) c.reply.result c.in-Some.line rest c.in_ok-put.ensures c.reply.ensures
     ∙ ap all (sym next) ∙ c.loop-line.invariant

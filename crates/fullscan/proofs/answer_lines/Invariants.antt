@@ -1,4 +1,4 @@
-use Rattle.std.proofs.Common.{◌≡◌, ◌++◌, length, replicate, None, string_bytes}
+use Rattle.std.proofs.Common.{◌≡◌, ◌++◌, replicate, None, string_bytes}
 use Rattle.samples.specs.Slots.{table}
 use Rattle.script.specs.Scripts.{commands, text_left}
 use Rattle.fullscan.specs.Answers.{print, replies}
@@ -10,8 +10,5 @@ invariant-loop-line g l =
     let m = g.M.Measure in
     let w = m.weighed l.measure in
     let j = m.joined l.measure in
-    string_bytes l.out ++ print (replies w j (table l.slots) (commands (text_left l.script)))
+    string_bytes l.out ++ print (replies w j (table l.slots) (commands (text_left l.line-iterator)))
     ≡ string_bytes l.initial.out ++ print (replies w j (replicate 256 None) (commands (text_left l.initial.script)))
-
-abbrev pub decreases-loop-line : goal.decreases-loop-line
-decreases-loop-line g l = length (text_left l.script)

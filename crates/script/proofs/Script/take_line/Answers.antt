@@ -1,21 +1,11 @@
-use Rattle.std.proofs.Common.{◌-◌, length, drop, sym, refl, arith, length-drop, length-take}
-use Rattle.std.proofs.lemmas.List.{nil_from_length}
-use Rattle.std.proofs.lemmas.Bool.{eqb-true, eqb-false}
-use Rattle.script.proofs.Parted.{lines_next}
+use Rattle.std.proofs.Common.{length, sym, ap, refl, ◌∙◌, arith}
+use Rattle.std.proofs.lemmas.Bool.{eqb-false}
+use Rattle.script.proofs.Parted.{behind_first, line_taken}
 use Rattle.script.proofs.Script.take_line.Goals as goal
-
-pub returns-then-is_empty : goal.returns-then-is_empty
-returns-then-is_empty c =
-    let text = c.args.self.now.rest.now in
-    (nil_from_length text (eqb-true (length text) 0 (sym c.if-is_empty.ensures)), refl)
 
 pub returns : goal.returns
 returns c =
     let text = c.args.self.now.rest.now in
     let some = eqb-false (length text) 0 (sym c.if-is_empty.ensures) in
-    let next = c.min-next.result in
-    let cut = length-take (length text - next) (drop next text) in
-    let left = length-drop next text in (
-      lines_next text c.find-end.result next (omega arith) (omega (arith, c.find-end.ensures.value)) (omega (arith, c.min-next.ensures)),
-      omega (arith, c.min-next.ensures),
-    )
+    line_taken text _ c.split_at.result.1.now _ c.line_len.result (omega arith) c.line_len.ensures.value c.split_at.ensures.front c.split_at.ensures.back
+    (ap (λ r. r.now) c.unwrap_or-self.ensures ∙ behind_first c.split_at.result.1.now c.get.result _ c.get.ensures.lookup refl)
