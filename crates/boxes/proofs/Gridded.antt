@@ -68,13 +68,6 @@ on_grid_upper t l k e d g = on_grid_from t l (subst (λ (j : Box). Grid j) (sym 
 pub grid_of : (k : Bounds) → Grid (box_of k)
 grid_of k = grid_from k.depth k.corner k.on_grid
 
-pub on_grid_deep : (t : ℕ) (l : List ℕ) → 80 < t → gridded t l ≡ false
-unfolding is_on_grid
-on_grid_deep t l h = grind arith
-
-pub on_grid_fails : (t : ℕ) (l : List ℕ) (b : ℕ) → b < 8 → on_step t b (get_or l b 0) ≡ false → gridded t l ≡ false
-on_grid_fails t l b m e = let s : gridded t l ≡ true → on_step t b (get_or l b 0) ≡ true = λ h. on_grid_step t l h b m in grind arith
-
 -- the sides of the deepest boxes
 pub deepest_side : (t b : ℕ) → t ≡ 80 → b < 8 → side t b ≡ 1
 deepest_side t b e l = ap (λ d. side d b) e ∙ side_deepest b l

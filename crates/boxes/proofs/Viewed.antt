@@ -1,26 +1,29 @@
 -- The program's boxes, as the tree's: when two are the same, and what their halves are. Assumes nothing.
-use Rattle.std.proofs.Common.{◌≡◌, ℕ, zero, suc, ◌+◌, ◌%◌, ◌<◌, Bool, true, false, cond, eqb, ◌≢◌, List, [], ◌∷◌, length, get_or, set, refl, ap, ◌∙◌, add-one, arith, get_or-set_other, get_or-set_same}
+use Rattle.std.proofs.Common.{◌≡◌, ℕ, zero, suc, ◌+◌, ◌%◌, ◌<◌, Bool, true, false, cond, eqb, ◌≢◌, List, replicate, length, get_or, set, refl, ap, ◌∙◌, add-one, arith, get_or-set_other, get_or-set_same}
+use Rattle.std.proofs.lemmas.Bool.Decides.{same_from_decides}
+use Rattle.std.specs.Prelude.{Decides}
 use Rattle.ranking.specs.Counts.{bit}
-use Rattle.trees.specs.Boxes.{Box, side, covers, lower, upper, everything}
-use Rattle.trees.proofs.Boxed.{funext, halves_cover}
+use Rattle.trees.specs.Boxes.{every, Box, side, covers, lower, upper, everything}
+use Rattle.trees.proofs.Boxed.{every_at, every_all, funext, halves_cover}
 use Rattle.boxes.specs.Views.{entries, Halved}
+
+-- what tells that all numbers below n pass a test
+pub every_is : (p : ℕ → Bool) (n : ℕ) (r : Bool) → Decides r ((b : ℕ) → b < n → p b ≡ true) → r ≡ every p n
+every_is p n r d = same_from_decides r (every p n) d (λ e b l. every_at p n b e l, every_all p n)
 
 pub same_box : (t u : ℕ) (f g : ℕ → ℕ) → t ≡ u → f ≡ g → ◌≡◌ {A = Box} (record { depth = t; corner = f }) (record { depth = u; corner = g })
 same_box t u f g p q = cc
 
 abbrev pub zeros : List ℕ
-zeros = 0 ∷ 0 ∷ 0 ∷ 0 ∷ 0 ∷ 0 ∷ 0 ∷ 0 ∷ []
+zeros = replicate 8 0
 
 pub zeros_at : (b : ℕ) → entries zeros b ≡ 0
-zeros_at zero = refl
-zeros_at (suc zero) = refl
-zeros_at (suc (suc zero)) = refl
-zeros_at (suc (suc (suc zero))) = refl
-zeros_at (suc (suc (suc (suc zero)))) = refl
-zeros_at (suc (suc (suc (suc (suc zero))))) = refl
-zeros_at (suc (suc (suc (suc (suc (suc zero)))))) = refl
-zeros_at (suc (suc (suc (suc (suc (suc (suc zero))))))) = refl
-zeros_at (suc (suc (suc (suc (suc (suc (suc (suc b)))))))) = refl
+zeros_at = go 8
+  where
+    go : (n b : ℕ) → entries (replicate n 0) b ≡ 0
+    go zero b = refl
+    go (suc n) zero = refl
+    go (suc n) (suc b) = go n b
 
 pub zeros_box : ◌≡◌ {A = Box} (record { depth = 0; corner = entries zeros }) everything
 zeros_box = same_box 0 0 (entries zeros) (λ b. 0) refl (funext (entries zeros) (λ b. 0) zeros_at)

@@ -3,9 +3,10 @@
 --   box_of k           the box that the bounds stand for
 --   Halved k l u       l and u are the halves of k, and what k covers lies in one of them, and in one alone
 --   kind_of, node_of   the kind and the node that stand for the program's
+--   children_of k      the first and the second child of a split or a shrink; links_of k gives 0 and 0 for a leaf
 --   node_at ns x       node x of a list
 --   counts_at ns x f   how many samples of fibre f node x of a list counts
-use Rattle.std.specs.Prelude.{◌≡◌, ℕ, ◌+◌, true, List, [], get_or, slice_index, slice_index_or, refl}
+use Rattle.std.specs.Prelude.{◌≡◌, ℕ, ◌+◌, true, Option, None, Some, unwrap_or, List, [], get_or, slice_index, slice_index_or, refl}
 use Rattle.ranking.specs.Counts.{bit}
 use Rattle.trees.specs.Boxes.{Box, halved, side, covers, lower, upper, is_on_grid}
 use Rattle.trees.specs.Trees as trees
@@ -28,11 +29,20 @@ pub record Halved (k l u : Box) : Type 0 where
 
 abbrev pub kind_of : Kind → trees.Kind
 kind_of Leaf = trees.leaf
-kind_of Split = trees.split
-kind_of Shrink = trees.shrink
+kind_of (Split l u) = trees.split
+kind_of (Shrink c r) = trees.shrink
+
+abbrev pub children_of : Kind → Option (ℕ × ℕ)
+children_of Leaf = None
+children_of (Split l u) = Some (l, u)
+children_of (Shrink c r) = Some (c, r)
+
+-- a leaf's child numbers are 0
+abbrev pub links_of : Kind → ℕ × ℕ
+links_of k = unwrap_or (children_of k) (0, 0)
 
 abbrev pub node_of : Node → trees.Node
-node_of n = record { kind = kind_of n.kind; box = box_of n.bounds; first = n.first; second = n.second }
+node_of n = record { kind = kind_of n.kind; box = box_of n.bounds; first = (links_of n.kind).0; second = (links_of n.kind).1 }
 
 -- a list has this leaf past its end
 pub blank_on_grid : gridded 0 [] ≡ true
@@ -40,7 +50,7 @@ unfolding is_on_grid side halved
 blank_on_grid = refl
 
 abbrev pub blank : Node
-blank = record { kind = Leaf; bounds = record { depth = 0; corner = []; on_grid = blank_on_grid }; first = 0; second = 0; counts = [] }
+blank = record { kind = Leaf; bounds = record { depth = 0; corner = []; on_grid = blank_on_grid }; counts = [] }
 
 abbrev pub node_at : List Node → ℕ → trees.Node
 node_at ns x = node_of (slice_index_or ns x blank)

@@ -1,5 +1,5 @@
 -- What the run of a box says of the samples in the box and in its halves. Assumes nothing.
-use Rattle.std.proofs.Common.{◌≡◌, ℕ, suc, ◌+◌, ◌<◌, ◌≤◌, true, false, not, ◌&&◌, eqb, ltb, List, ◌++◌, length, take, drop, sym, ap, ◌∙◌, subst, arith}
+use Rattle.std.proofs.Common.{◌≡◌, ℕ, suc, ◌+◌, ◌-◌, ◌<◌, ◌≤◌, true, false, not, ◌&&◌, eqb, ltb, List, ◌++◌, length, take, drop, sym, ap, ◌∙◌, subst, arith}
 use Rattle.std.proofs.lemmas.List.{take_at, drop_at}
 use Rattle.std.proofs.lemmas.Bool.{ltb-true}
 use Rattle.ranking.specs.Counts.{bit}
@@ -11,6 +11,7 @@ use Rattle.trees.specs.Samples.{Samples}
 use Rattle.trees.proofs.Boxed.{halves_cover}
 use Rattle.trees.proofs.Drawn.{halves_many, core_same, core_here, core_low, core_high}
 use Rattle.drawing.specs.Runs.{Run, Parted, lodging, of_code}
+use Rattle.drawing.proofs.Parting.{front_counts, rest_counts}
 use Rattle.drawing.proofs.Running.{holds_length}
 
 module _ (a : Samples) where
@@ -56,13 +57,13 @@ module _ (a : Samples) where
       module _ (ys : List ℕ) (m : ℕ) (p : Parted (lodged a (lower k)) xs ys m) where
         pub run_lower : Run a (lower k) (take m ys)
         run_lower q =
-            p.front q
+            front_counts (lodged a (lower k)) xs ys m p q
             ∙ (r (λ s. lodged a (lower k) s && q s)
             ∙ count_ext (λ s. lodged a k s && (lodged a (lower k) s && q s)) (λ s. lodged a (lower k) s && q s) a.slots (λ s l. let h = halves_lodged k d s in grind arith))
 
         pub run_upper : Run a (upper k) (drop m ys)
         run_upper q =
-            p.rest q
+            rest_counts (lodged a (lower k)) xs ys m p q
             ∙ (r (λ s. not (lodged a (lower k) s) && q s)
             ∙ count_ext (λ s. lodged a k s && (not (lodged a (lower k) s) && q s)) (λ s. lodged a (upper k) s && q s) a.slots (λ s l. let h = halves_lodged k d s in grind arith))
 
@@ -108,6 +109,10 @@ module _ (a : Samples) (k l u : Box) (h : Halved k l u) (t : true ≡ ltb k.dept
   pub halves_deeper : (l.depth ≡ suc k.depth) × (u.depth ≡ suc k.depth)
   unfolding lower upper
   halves_deeper = (ap (λ (j : Box). j.depth) h.low, ap (λ (j : Box). j.depth) h.high)
+
+  -- fewer halvings are left in either half
+  pub halves_smaller : (80 - l.depth < 80 - k.depth) × (80 - u.depth < 80 - k.depth)
+  halves_smaller = let d = halves_depth in let m = halves_deeper in (omega arith, omega arith)
 
   module _ (n : ℕ) (e : n ≡ lodging a l xs) where
     is_below : n ≡ lodging a (lower k) xs

@@ -1,106 +1,79 @@
 -- A list parted in place: what passes a test moves to the front, slot by slot. Assumes nothing.
-use Rattle.std.proofs.Common.{◌≡◌, ℕ, ◌+◌, ◌<◌, ◌≤◌, Bool, true, false, not, ◌&&◌, List, length, get_or, take, drop, sum_by, sym, refl, ap, ◌∙◌, subst, ⊎_elim, arith, length-drop, length-take}
+use Rattle.std.proofs.Common.{◌≡◌, ℕ, ◌+◌, ◌<◌, ◌≤◌, Bool, true, false, not, cond, ◌&&◌, List, length, get_or, take, drop, count_by, sym, ap, ◌∙◌, subst, ⊎_elim, arith, length-drop, length-take}
+use Rattle.std.specs.List.{AllWithin, SwappedAt}
 use Rattle.std.specs.List.Sorted.{IsPermutation}
-use Rattle.std.specs.List.{AllByRecursion}
-use Rattle.std.proofs.ByRecursion.{All-from_get_or}
-use Rattle.std.specs.List.{SwappedAt}
-use Rattle.std.proofs.lemmas.List.{get_or-take, get_or-drop}
-use Rattle.std.proofs.lemmas.List.Sorted.{sum_by-IsPermutation}
-use Rattle.std.proofs.lemmas.List.Sums.{sum_by-take-drop}
 use Rattle.std.proofs.lemmas.Bool.{cases_eq}
-use Rattle.ranking.specs.Counts.{bit}
+use Rattle.std.proofs.lemmas.List.{get_or-take, get_or-drop, get_or_default}
+use Rattle.std.proofs.lemmas.List.Sorted.{IsPermutation-trans, sum_by-IsPermutation}
+use Rattle.std.proofs.lemmas.List.Sums.{sum_by-take-drop}
 use Rattle.drawing.specs.Runs.{Parted}
-use Rattle.drawing.proofs.Running.{sum_by_ext, sum_by_none}
+use Rattle.drawing.proofs.Running.{count_by_ext, count_by_none}
 
 -- ys is xs reordered: of its first i slots the first m pass p, and the others do not
 pub record Parting (p : ℕ → Bool) (xs ys : List ℕ) (m i : ℕ) : Type 0 where
-  pub same : (f : ℕ → ℕ) → sum_by f ys ≡ sum_by f xs
-  pub long : length ys ≡ length xs
+  pub moved : IsPermutation xs ys
   pub behind : m ≤ i
-  pub passes : (k : ℕ) → k < m → p (get_or ys k 0) ≡ true
-  pub fails : (k : ℕ) → m ≤ k → k < i → p (get_or ys k 0) ≡ false
+  pub passes : AllWithin (λ s. p s ≡ true) ys 0 m
+  pub fails : AllWithin (λ s. p s ≡ false) ys m i
 
 module _ (p : ℕ → Bool) (xs : List ℕ) where
-  pub parting_none : Parting p xs xs 0 0
-  parting_none = record {
-    same = λ f. refl;
-    long = refl;
-    behind = omega arith;
-    passes = λ k l. absurd (omega arith);
-    fails = λ k l m. absurd (omega arith);
-  }
-
-  pub parting_skip : (ys : List ℕ) (m i : ℕ) → Parting p xs ys m i → p (get_or ys i 0) ≡ false → Parting p xs ys m (i + 1)
-  parting_skip ys m i h e = record {
-    same = h.same;
-    long = h.long;
+  pub parting_skip : (ys : List ℕ) (m i : ℕ) → Parting p xs ys m i → i < length ys → p (get_or ys i 0) ≡ false → Parting p xs ys m (i + 1)
+  parting_skip ys m i h l e = record {
+    moved = h.moved;
     behind = omega (arith, h.behind);
     passes = h.passes;
-    fails = λ k l b. ⊎_elim (λ (s : k ≡ i). ap (λ n. p (get_or ys n 0)) s ∙ e) (λ n. h.fails k l (omega arith)) (cases_eq k i);
+    fails = λ k d b c. ⊎_elim (λ (s : k ≡ i). ap (λ n. p (get_or ys n d)) s ∙ (ap p (get_or_default ys i d 0 l) ∙ e)) (λ n. h.fails k d b (omega arith)) (cases_eq k i);
   }
 
-  pub parting_swap : (ys zs : List ℕ) (m i : ℕ) → Parting p xs ys m i → p (get_or ys i 0) ≡ true → IsPermutation ys zs → length zs ≡ length ys → SwappedAt ys zs m i → Parting p xs zs (m + 1) (i + 1)
-  parting_swap ys zs m i h e shuffled long places = record {
-    same = λ f. sum_by-IsPermutation f ys zs shuffled ∙ h.same f;
-    long = long ∙ h.long;
+  pub parting_swap : (ys zs : List ℕ) (m i : ℕ) → Parting p xs ys m i → i < length ys → p (get_or ys i 0) ≡ true → IsPermutation ys zs → SwappedAt ys zs m i → Parting p xs zs (m + 1) (i + 1)
+  parting_swap ys zs m i h l e shuffled places = record {
+    moved = IsPermutation-trans xs ys zs h.moved shuffled;
     behind = omega (arith, h.behind);
-    passes = λ k l.
+    passes = λ k d b c.
         let behind = h.behind in
         ⊎_elim
-        (λ (s : k ≡ m). ap (λ n. p (get_or zs n 0)) s ∙ (ap p (places.0 0) ∙ e))
-        (λ n. ap p (places.2 k 0 n (λ s. absurd (omega arith))) ∙ h.passes k (omega arith))
+        (λ (s : k ≡ m). ap (λ n. p (get_or zs n d)) s ∙ (ap p (places.0 d) ∙ (ap p (get_or_default ys i d 0 l) ∙ e)))
+        (λ n. ap p (places.2 k d n (λ s. absurd (omega arith))) ∙ h.passes k d b (omega arith))
         (cases_eq k m);
-    fails = λ k l b.
+    fails = λ k d b c.
         ⊎_elim
-        (λ (s : k ≡ i). ap (λ n. p (get_or zs n 0)) s ∙ (ap p (places.1 0) ∙ h.fails m (omega arith) (omega arith)))
-        (λ n. ap p (places.2 k 0 (λ s. absurd (omega arith)) n) ∙ h.fails k (omega arith) (omega arith))
+        (λ (s : k ≡ i). ap (λ n. p (get_or zs n d)) s ∙ (ap p (places.1 d) ∙ h.fails m d (omega arith) (omega arith)))
+        (λ n. ap p (places.2 k d (λ s. absurd (omega arith)) n) ∙ h.fails k d (omega arith) (omega arith))
         (cases_eq k i);
   }
 
   pub parting_all : (ys : List ℕ) (m i : ℕ) → Parting p xs ys m i → i ≡ length ys → Parted p xs ys m
   parting_all ys m i h end = record {
+    moved = h.moved;
     within = omega (arith, h.behind);
-    front = λ q.
-        let all : AllByRecursion (λ s. bit (q s) ≡ bit (p s && q s)) (take m ys) = All-from_get_or (λ s. bit (q s) ≡ bit (p s && q s)) (take m ys) 0 (λ k l. first q k (front_within k l)) in
-        let none : AllByRecursion (λ s. bit (p s && q s) ≡ 0) (drop m ys) = All-from_get_or (λ s. bit (p s && q s) ≡ 0) (drop m ys) 0 (λ k l. second q k (rest_within k l)) in
-        let a = sum_by_ext (λ s. bit (q s)) (λ s. bit (p s && q s)) (take m ys) all in
-        let b = sum_by_none (λ s. bit (p s && q s)) (drop m ys) none in
-        let c = sum_by-take-drop (λ s. bit (p s && q s)) ys m in
-        let d = h.same (λ s. bit (p s && q s)) in
-        omega arith;
-    rest = λ q.
-        let all : AllByRecursion (λ s. bit (q s) ≡ bit (not (p s) && q s)) (drop m ys) = All-from_get_or (λ s. bit (q s) ≡ bit (not (p s) && q s)) (drop m ys) 0 (λ k l. third q k (rest_within k l)) in
-        let none : AllByRecursion (λ s. bit (not (p s) && q s) ≡ 0) (take m ys) = All-from_get_or (λ s. bit (not (p s) && q s) ≡ 0) (take m ys) 0 (λ k l. fourth q k (front_within k l)) in
-        let a = sum_by_ext (λ s. bit (q s)) (λ s. bit (not (p s) && q s)) (drop m ys) all in
-        let b = sum_by_none (λ s. bit (not (p s) && q s)) (take m ys) none in
-        let c = sum_by-take-drop (λ s. bit (not (p s) && q s)) ys m in
-        let d = h.same (λ s. bit (not (p s) && q s)) in
-        omega arith;
+    parted = (h.passes, λ k d b c. h.fails k d b (omega arith));
   }
-    where
-      front_within : (k : ℕ) → k < length (take m ys) → k < m
-      front_within k l = omega (arith, length-take m ys)
 
-      rest_within : (k : ℕ) → k < length (drop m ys) → m + k < i
-      rest_within k l = omega (arith, length-drop m ys)
+  -- the two parts, by how many of them pass another test
+  module _ (ys : List ℕ) (m : ℕ) (h : Parted p xs ys m) where
+    in_front : (k : ℕ) → k < length (take m ys) → p (get_or (take m ys) k 0) ≡ true
+    in_front k l =
+        let n : k < m = omega (arith, length-take m ys) in
+        ap p (get_or-take m ys k 0 n) ∙ h.parted.0 k 0 (omega arith) n
 
-      in_front : (k : ℕ) → k < m → p (get_or (take m ys) k 0) ≡ true
-      in_front k l = ap p (get_or-take m ys k 0 l) ∙ h.passes k l
+    in_rest : (k : ℕ) → k < length (drop m ys) → p (get_or (drop m ys) k 0) ≡ false
+    in_rest k l = ap p (get_or-drop m ys k 0) ∙ h.parted.1 (m + k) 0 (omega arith) (omega (arith, length-drop m ys))
 
-      in_rest : (k : ℕ) → m + k < i → p (get_or (drop m ys) k 0) ≡ false
-      in_rest k l = ap p (get_or-drop m ys k 0) ∙ h.fails (m + k) (omega arith) l
+    pub front_counts : (q : ℕ → Bool) → count_by q (take m ys) ≡ count_by (λ s. p s && q s) xs
+    front_counts q =
+        let a = count_by_ext q (λ s. p s && q s) (take m ys) (λ k l. let e = in_front k l in grind arith) in
+        let b = count_by_none (λ s. p s && q s) (drop m ys) (λ k l. let e = in_rest k l in grind arith) in
+        let c = sum_by-take-drop (λ s. cond (p s && q s) 1 0) ys m in
+        let d = sum_by-IsPermutation (λ s. cond (p s && q s) 1 0) xs ys h.moved in
+        omega arith
 
-      first : (q : ℕ → Bool) (k : ℕ) → k < m → bit (q (get_or (take m ys) k 0)) ≡ bit (p (get_or (take m ys) k 0) && q (get_or (take m ys) k 0))
-      first q k l = let e = in_front k l in grind arith
-
-      second : (q : ℕ → Bool) (k : ℕ) → m + k < i → bit (p (get_or (drop m ys) k 0) && q (get_or (drop m ys) k 0)) ≡ 0
-      second q k l = let e = in_rest k l in grind arith
-
-      third : (q : ℕ → Bool) (k : ℕ) → m + k < i → bit (q (get_or (drop m ys) k 0)) ≡ bit (not (p (get_or (drop m ys) k 0)) && q (get_or (drop m ys) k 0))
-      third q k l = let e = in_rest k l in grind arith
-
-      fourth : (q : ℕ → Bool) (k : ℕ) → k < m → bit (not (p (get_or (take m ys) k 0)) && q (get_or (take m ys) k 0)) ≡ 0
-      fourth q k l = let e = in_front k l in grind arith
+    pub rest_counts : (q : ℕ → Bool) → count_by q (drop m ys) ≡ count_by (λ s. not (p s) && q s) xs
+    rest_counts q =
+        let a = count_by_ext q (λ s. not (p s) && q s) (drop m ys) (λ k l. let e = in_rest k l in grind arith) in
+        let b = count_by_none (λ s. not (p s) && q s) (take m ys) (λ k l. let e = in_front k l in grind arith) in
+        let c = sum_by-take-drop (λ s. cond (not (p s) && q s) 1 0) ys m in
+        let d = sum_by-IsPermutation (λ s. cond (not (p s) && q s) 1 0) xs ys h.moved in
+        omega arith
 
 pub parting_at : {p : ℕ → Bool} {xs ys zs : List ℕ} {m n i : ℕ} → zs ≡ ys → n ≡ m → Parting p xs ys m i → Parting p xs zs n i
 parting_at {p} {xs} {ys} {zs} {m} {n} {i} same at h =

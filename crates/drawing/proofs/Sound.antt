@@ -1,17 +1,20 @@
 -- Every sample held in the slots is in range, so that the box of all values has them all. Assumes nothing.
-use Rattle.std.proofs.Common.{◌≡◌, ℕ, zero, suc, ◌<◌, true, List, [], ◌∷◌, map, get_or, is_some, Some, None, Option, unwrap_or, arith}
+use Rattle.std.proofs.Common.{◌≡◌, ℕ, zero, suc, ◌<◌, true, List, [], ◌∷◌, map, get_or, is_some, Some, None, Option, MatchOption, unwrap_or, Bool, false, cond, ◌+◌, ◌++◌, Bor, sym, ap, ◌∙◌, arith}
 use Rattle.std.specs.Option.{option_map}
 use Rattle.std.proofs.lemmas.Bool.{false≢true}
 use Rattle.boxes.specs.Views.{entries}
 use Rattle.samples.specs.Ranges.{below}
-use Rattle.samples.specs.Slots.{Point, point, table, held}
+use Rattle.samples.specs.Slots.{Point, Table, point, table, at, held}
+use Rattle.samples.proofs.Tabled.{held_some, values_some}
 use Rattle.samples.specs.declared.sample.Sample.{Sample}
 use Rattle.samples.specs.declared.slots.Slots.{Slots}
-use Rattle.trees.specs.Boxes.{covers, everything}
+use Rattle.trees.specs.Boxes.{Box, covers, everything}
 use Rattle.trees.specs.Drawing.{lodged}
 use Rattle.trees.specs.Samples.{Valid}
 use Rattle.trees.proofs.Drawn.{everything_covers}
-use Rattle.drawing.specs.Held.{held_in}
+use Rattle.drawing.specs.Held.{samples_of, held_in}
+use Rattle.drawing.specs.Runs.{Holds}
+use Rattle.drawing.proofs.Running.{holds_skip, holds_push}
 
 below_at : (n : ℕ) (l : List ℕ) (b : ℕ) → 0 < n → below n l ≡ true → entries l b < n
 below_at n [] b h e = h
@@ -39,3 +42,21 @@ unfolding lodged
 lodged_everything xs s l =
     let c : held (table xs) s ≡ true → covers everything ((held_in xs).value s) ≡ true = λ h. everything_covers (held_in xs) (valid_samples xs) s l h in
     grind arith
+
+-- the test that is put to what a slot holds
+pub lodged_by : (t : Table) (s : ℕ) (k : Box) (o : Option (Bor Sample)) (b : Bool) (P : Bor Sample → Type 0) → option_map (λ x. point x.now) o ≡ at t s
+    → MatchOption o (b ≡ false) P → ((x : Bor Sample) → P x → b ≡ covers k (entries x.now.reading.values)) → b ≡ lodged (samples_of t) k s
+unfolding lodged
+lodged_by t s k None b P e h q = let n : held t s ≡ false = ap is_some (sym e) in grind arith
+lodged_by t s k (Some x) b P e h q =
+    let y : held t s ≡ true = held_some t s (point x.now) e in
+    let v = values_some t s (point x.now) e in
+    let c = q x h in
+    let z = ap (λ (l : List ℕ). covers k (entries l)) v in
+    grind arith
+
+-- the slots gathered so far, and one more
+pub gathered : (xs : Slots) (s : ℕ) (r : List ℕ) (o : Option (Bor Sample)) → s < 256 → option_map (λ x. point x.now) o ≡ at (table xs) s → Holds (lodged (held_in xs) everything) s r
+    → Holds (lodged (held_in xs) everything) (s + 1) (cond (is_some o) (r ++ s ∷ []) r)
+gathered xs s r None l e h = holds_skip (lodged (held_in xs) everything) s r (lodged_everything xs s l ∙ sym (ap is_some e)) h
+gathered xs s r (Some x) l e h = holds_push (lodged (held_in xs) everything) s r (lodged_everything xs s l ∙ sym (ap is_some e)) h

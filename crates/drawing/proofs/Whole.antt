@@ -1,5 +1,5 @@
 -- The tree over all the samples is the plan of the box of all values. Assumes nothing.
-use Rattle.std.proofs.Common.{◌≡◌, ℕ, List, sym, ap, subst, arith}
+use Rattle.std.proofs.Common.{◌≡◌, ℕ, List, [], length, sym, ap, subst, arith}
 use Rattle.boxes.specs.Views.{node_at, counts_at}
 use Rattle.boxes.specs.declared.node.Node.{Node}
 use Rattle.trees.specs.Boxes.{Box, everything}
@@ -16,14 +16,18 @@ module _ (a : Samples) (k : Box) (e : k ≡ everything) where
   pub run_whole : (xs ys : List ℕ) → ys ≡ xs → Run a everything xs → Run a k ys
   run_whole xs ys s r = subst (λ (j : Box). Run a j ys) (sym e) (subst (Run a everything) (sym s) r)
 
-  module _ (old new : List Node) (r : ℕ) (b : Built a (plan a k) k 0 old new r) where
-    pub whole_size : r ≡ size (rebuilt a)
-    whole_size = let s = ap size plan_whole in let u = b.up_to in omega arith
+  -- behind no nodes
+  module _ (old new : List Node) (none : old ≡ []) (b : Built a (plan a k) k old new) where
+    whole : Built a (rebuilt a) everything [] new
+    whole =
+        subst (λ (p : Plan). Built a p everything [] new) plan_whole
+        (subst (λ (j : Box). Built a (plan a k) j [] new) e (subst (λ (l : List Node). Built a (plan a k) k l new) none b))
+
+    pub whole_size : length new ≡ size (rebuilt a)
+    whole_size = let l = whole.long in omega arith
 
     pub whole_numbered : Numbered (node_at new) (rebuilt a) everything 0
-    whole_numbered =
-        subst (λ (j : Box). Numbered (node_at new) (rebuilt a) j 0) e (subst (λ (p : Plan). Numbered (node_at new) p k 0) plan_whole b.numbered)
+    whole_numbered = whole.numbered
 
     pub whole_tallied : Tallied a (counts_at new) (rebuilt a) everything 0
-    whole_tallied =
-        subst (λ (j : Box). Tallied a (counts_at new) (rebuilt a) j 0) e (subst (λ (p : Plan). Tallied a (counts_at new) p k 0) plan_whole b.tallied)
+    whole_tallied = whole.tallied

@@ -4,26 +4,27 @@
 --   lodging a k xs      how many slots of a list hold a sample in the box k
 --   of_code a xs f      how many slots of a list hold a sample of fibre f
 --   Parted p xs ys m    ys is xs reordered: its first m slots are those that pass p
-use Rattle.std.specs.Prelude.{◌≡◌, ℕ, ◌≤◌, Bool, not, ◌&&◌, List, length, take, drop, sum_by, ◌==◌}
-use Rattle.ranking.specs.Counts.{bit, count}
+use Rattle.std.specs.Prelude.{◌≡◌, ℕ, ◌≤◌, Bool, true, false, ◌&&◌, List, length, count_by, IsPermutation, ◌==◌}
+use Rattle.std.specs.List.Sorted.{IsPartitionPoint}
+use Rattle.ranking.specs.Counts.{count}
 use Rattle.trees.specs.Boxes.{Box}
 use Rattle.trees.specs.Drawing.{lodged}
 use Rattle.trees.specs.Samples.{Samples}
 
 -- whatever test is put to the slots, as many pass in the list as among those below n that pass p
 abbrev pub Holds : (ℕ → Bool) → ℕ → List ℕ → Type 0
-Holds p n xs = (q : ℕ → Bool) → sum_by (λ s. bit (q s)) xs ≡ count (λ s. p s && q s) n
+Holds p n xs = (q : ℕ → Bool) → count_by q xs ≡ count (λ s. p s && q s) n
 
 abbrev pub Run : Samples → Box → List ℕ → Type 0
 Run a k xs = Holds (lodged a k) a.slots xs
 
 abbrev pub lodging : Samples → Box → List ℕ → ℕ
-lodging a k xs = sum_by (λ s. bit (lodged a k s)) xs
+lodging a k xs = count_by (lodged a k) xs
 
 abbrev pub of_code : Samples → List ℕ → ℕ → ℕ
-of_code a xs f = sum_by (λ s. bit (a.held s && a.fibre s == f)) xs
+of_code a xs f = count_by (λ s. a.held s && a.fibre s == f) xs
 
 pub record Parted (p : ℕ → Bool) (xs ys : List ℕ) (m : ℕ) : Type 0 where
+  pub moved : IsPermutation xs ys
   pub within : m ≤ length ys
-  pub front : (q : ℕ → Bool) → sum_by (λ s. bit (q s)) (take m ys) ≡ sum_by (λ s. bit (p s && q s)) xs
-  pub rest : (q : ℕ → Bool) → sum_by (λ s. bit (q s)) (drop m ys) ≡ sum_by (λ s. bit (not (p s) && q s)) xs
+  pub parted : IsPartitionPoint (λ s. p s ≡ true) (λ s. p s ≡ false) ys m

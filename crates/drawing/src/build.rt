@@ -1,13 +1,15 @@
 // Draws the tree over the samples held: box by box, each from the run of slots whose samples lie in it.
-ghost use Rattle.std.specs.Prelude.{◌≡◌, true, false};
-ghost use Rattle.boxes.specs.Views.{box_of};
+ghost use Rattle.std.specs.Prelude.{◌≡◌, ◌<◌, ◌∷◌, ◌++◌, [], false, true, length};
 ghost use Rattle.boxes.specs.declared.node.Kind.TheVariants.{Leaf};
-ghost use Rattle.trees.specs.Drawing.{both, few, core};
-ghost use Rattle.drawing.specs.Builds.{Ready, Draws};
+ghost use Rattle.boxes.specs.Views.{box_of};
+ghost use Rattle.trees.specs.Drawing.{both, core, few};
+ghost use Rattle.drawing.specs.Builds.{over, nodes_of, Ready, Follows, Draws};
 ghost use Rattle.drawing.specs.Held.{held_in};
 ghost use Rattle.drawing.specs.Runs.{Run};
 
+use super::MAX_NODES;
 use super::runs::{count_in, part, tally};
+use arrayvec::ArrayVec;
 use boxes::{Bounds, Kind, MAX_DEPTH, Node};
 use ranking::CODES;
 use samples::Slots;
@@ -15,101 +17,90 @@ use samples::Slots;
 // The most samples of a leaf that could be split.
 const LEAF_SAMPLES: usize = 4;
 
-// Draws the tree over a run of the box from node `at` on, and says where it ends. The run is then in disorder.
-#[cycle(build_box_build_shrink_build_split)]
-pub(crate) fn build_box(
-    slots: &Slots,
-    run: &mut [u8],
-    k: Bounds,
-    nodes: &mut [Node],
-    at: usize,
-) -> usize
-    requires { Ready (held_in slots.now) k run.old nodes.old at }
-    ensures { Draws (held_in slots.now) k at nodes.old nodes.new result }
-{
-    if run.len() <= LEAF_SAMPLES || k.depth() >= MAX_DEPTH {
-        let counts = tally(slots, run);
-        nodes[at] = leaf(k, counts);
-        return at + 1;
+// Draws boxes over the samples in the slots, each behind the nodes that there are.
+#[derive(Drop)]
+pub(crate) struct Builder<'a> {
+    pub(crate) slots: &'a Slots,
+    pub(crate) nodes: &'a mut ArrayVec<Node, MAX_NODES>,
+}
+
+impl Builder<'_> {
+    // Draws the tree over a run of the box. The run is then in disorder.
+    #[cycle(building)]
+    pub(crate) fn build_box(&mut self, run: &mut [u8], k: Bounds)
+        requires { Ready self.old k run.old }
+        ensures { Draws self.old k self.new }
+    {
+        if run.len() <= LEAF_SAMPLES || k.depth() >= MAX_DEPTH {
+            let counts = tally(self.slots, run);
+            self.push(k, counts);
+            return;
+        }
+        let inner = core_of(self.slots, run, k);
+        if inner.depth() > k.depth() {
+            self.build_shrink(run, k, inner);
+        } else {
+            self.build_split(run, k);
+        }
     }
-    let inner = core_of(slots, run, k);
-    if inner.depth() > k.depth() {
-        build_shrink(slots, run, k, inner, nodes, at)
-    } else {
-        build_split(slots, run, k, nodes, at)
+
+    // The same where both halves of the box have samples: the parent, the whole lower half, the upper half.
+    #[cycle(building)]
+    fn build_split(&mut self, run: &mut [u8], k: Bounds)
+        requires ready { Ready self.old k run.old }
+        requires full { few (over self.old) (box_of k) ≡ false }
+        requires parts { both (over self.old) (box_of k) ≡ true }
+        ensures { Draws self.old k self.new }
+    {
+        let Some((lower, upper)) = k.halves() else {
+            unreachable()
+        };
+        let counts = tally(self.slots, run);
+        let below = part(self.slots, run, &lower);
+        let (front, back) = run.split_at_mut(below);
+        let at = self.push(k, counts);
+        self.build_box(front, lower);
+        let second = self.nodes.len();
+        self.build_box(back, upper);
+        self.nodes[at].kind = Kind::Split {
+            lower: at as u16 + 1,
+            upper: second as u16,
+        };
     }
-}
 
-// The same where both halves of the box have samples: the parent, the whole lower half, the upper half.
-#[cycle(build_box_build_shrink_build_split)]
-fn build_split(slots: &Slots, run: &mut [u8], k: Bounds, nodes: &mut [Node], at: usize) -> usize
-    requires ready { Ready (held_in slots.now) k run.old nodes.old at }
-    requires full { few (held_in slots.now) (box_of k) ≡ false }
-    requires parts { both (held_in slots.now) (box_of k) ≡ true }
-    ensures { Draws (held_in slots.now) k at nodes.old nodes.new result }
-{
-    let counts = tally(slots, run);
-    let Some(halves) = k.halves() else {
-        unreachable()
-    };
-    let (lower, upper) = halves;
-    let below = part(slots, run, &lower);
-    let (front, back) = run.split_at_mut(below);
-    let second = build_box(slots, front, lower, nodes, at + 1);
-    let end = build_box(slots, back, upper, nodes, second);
-    nodes[at] = Node {
-        kind: Kind::Split,
-        bounds: k,
-        first: (at + 1) as u16,
-        second: second as u16,
-        counts,
-    };
-    end
-}
+    // The same where one half has them all: the parent, the whole deepest box with all the samples, the rim.
+    #[cycle(building)]
+    fn build_shrink(&mut self, run: &mut [u8], k: Bounds, inner: Bounds)
+        requires ready { Ready self.old k run.old }
+        requires full { few (over self.old) (box_of k) ≡ false }
+        requires parts { both (over self.old) (box_of k) ≡ false }
+        requires inner { box_of inner ≡ core (over self.old) (box_of k) }
+        ensures { Draws self.old k self.new }
+    {
+        let counts = tally(self.slots, run);
+        let at = self.push(k, counts);
+        self.build_box(run, inner);
+        let rim = self.push(k, [0; CODES]);
+        self.nodes[at].kind = Kind::Shrink {
+            core: at as u16 + 1,
+            rim: rim as u16,
+        };
+    }
 
-// The same where one half has them all: the parent, the whole deepest box with all the samples, the rim.
-#[cycle(build_box_build_shrink_build_split)]
-fn build_shrink(
-    slots: &Slots,
-    run: &mut [u8],
-    k: Bounds,
-    inner: Bounds,
-    nodes: &mut [Node],
-    at: usize,
-) -> usize
-    requires ready { Ready (held_in slots.now) k run.old nodes.old at }
-    requires full { few (held_in slots.now) (box_of k) ≡ false }
-    requires parts { both (held_in slots.now) (box_of k) ≡ false }
-    requires inner { box_of inner ≡ core (held_in slots.now) (box_of k) }
-    ensures { Draws (held_in slots.now) k at nodes.old nodes.new result }
-{
-    let counts = tally(slots, run);
-    let rim = build_box(slots, run, inner, nodes, at + 1);
-    nodes[rim] = leaf(k, [0; CODES]);
-    nodes[at] = Node {
-        kind: Kind::Shrink,
-        bounds: k,
-        first: (at + 1) as u16,
-        second: rim as u16,
-        counts,
-    };
-    rim + 1
-}
-
-// A leaf with this box and these counts.
-fn leaf(k: Bounds, counts: [u16; CODES]) -> Node
-    ensures kind { result.kind ≡ Leaf }
-    ensures bounds { box_of result.bounds ≡ box_of k }
-    ensures first { result.first ≡ 0 }
-    ensures second { result.second ≡ 0 }
-    ensures counts { result.counts ≡ counts }
-{
-    Node {
-        kind: Kind::Leaf,
-        bounds: k,
-        first: 0,
-        second: 0,
-        counts,
+    // Puts a leaf behind the nodes, and says its number.
+    fn push(&mut self, bounds: Bounds, counts: [u16; CODES]) -> usize
+        requires { length (nodes_of self.old) < 1021 }
+        ensures number { result ≡ length (nodes_of self.old) }
+        ensures same { Follows self.old self.new }
+        ensures pushed { nodes_of self.new ≡ nodes_of self.old ++ record { kind = Leaf; bounds = bounds; counts = counts } ∷ [] }
+    {
+        let number = self.nodes.len();
+        self.nodes.push(Node {
+            kind: Kind::Leaf,
+            bounds,
+            counts,
+        });
+        number
     }
 }
 
@@ -119,15 +110,11 @@ fn core_of(slots: &Slots, run: &[u8], k: Bounds) -> Bounds
     ensures { box_of result ≡ core (held_in slots.now) (box_of k) }
 {
     let mut deepest = k;
-    while let Some(halves) = deepest.halves() {
-        let (low, high) = halves;
-        let below = count_in(slots, run, &low);
-        if below == 0 {
-            deepest = high;
-        } else if below < run.len() {
-            return deepest;
-        } else {
-            deepest = low;
+    while let Some((low, high)) = deepest.halves() {
+        match count_in(slots, run, &low) {
+            0 => deepest = high,
+            all if all == run.len() => deepest = low,
+            _ => break,
         }
     }
     deepest

@@ -1,12 +1,12 @@
 -- What a field's type says holds of a tree that was just drawn; and an empty field's tree is one leaf. Assumes nothing.
-use Rattle.std.proofs.Common.{◌≡◌, ℕ, zero, suc, true, false, ◌&&◌, eqb, List, replicate, None, refl, ap, ◌∙◌, arith}
+use Rattle.std.proofs.Common.{◌≡◌, ℕ, ◌≤◌, zero, suc, true, false, ◌&&◌, eqb, List, replicate, None, refl, ap, ◌∙◌, arith}
 use Rattle.ranking.proofs.Counted.{count_none}
 use Rattle.samples.specs.Slots.{Table, table, held}
 use Rattle.samples.specs.declared.slots.Slots.{Slots}
 use Rattle.trees.specs.Boxes.{everything}
 use Rattle.trees.specs.Drawing.{stop, size, lodged, rebuilt, of_fibre, Numbered, Tallied}
 use Rattle.trees.specs.Lawful.{lawful, right}
-use Rattle.trees.proofs.Drawn.{draw_few}
+use Rattle.trees.proofs.Drawn.{draw_few, rebuilt_size}
 use Rattle.trees.proofs.Rebuilt.{rebuilt_lawful, rebuilt_right}
 use Rattle.boxes.specs.Views.{node_at, counts_at}
 use Rattle.boxes.specs.declared.node.Node.{Node}
@@ -14,6 +14,9 @@ use Rattle.drawing.specs.Held.{samples_of, held_in}
 use Rattle.drawing.proofs.Sound.{valid_samples}
 
 module _ (xs : Slots) (ns : List Node) (m : ℕ) (e : m ≡ size (rebuilt (held_in xs))) (n : Numbered (node_at ns) (rebuilt (held_in xs)) everything 0) (t : Tallied (held_in xs) (counts_at ns) (rebuilt (held_in xs)) everything 0) where
+  pub drawn_few : m ≤ 1021
+  drawn_few = omega (arith, e, rebuilt_size (held_in xs) (omega arith))
+
   pub drawn_lawful : lawful m (node_at ns) ≡ true
   drawn_lawful = ap (λ k. lawful k (node_at ns)) e ∙ rebuilt_lawful (held_in xs) (node_at ns) n
 

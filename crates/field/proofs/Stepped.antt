@@ -1,78 +1,57 @@
 -- One step along the path of values, as the code takes it. Assumes nothing.
-use Rattle.std.proofs.Common.{◌≡◌, ℕ, ◌<◌, ◌≤◌, true, false, not, List, length, get_or, Some, sym, refl, ap, ◌∙◌, subst, arith}
+use Rattle.std.proofs.Common.{◌≡◌, ℕ, ◌<◌, true, false, not, unwrap_or, List, length, get_or, Some, sym, refl, ap, ◌∙◌, arith}
 use Rattle.std.proofs.lemmas.List.{get_or_default}
 use Rattle.trees.specs.Boxes.{covers}
 use Rattle.trees.specs.Trees.{Rules, parts, next}
 use Rattle.trees.specs.Trees as trees
 use Rattle.trees.proofs.Pathed.{next_first, next_second}
-use Rattle.boxes.specs.Views.{box_of, blank, kind_of, node_of, node_at}
-use Rattle.field.specs.Changes.{Goes}
+use Rattle.boxes.specs.Views.{box_of, blank, children_of, kind_of, links_of, node_of, node_at}
+use Rattle.field.specs.Paths.{Goes}
 use Rattle.boxes.specs.declared.node.Kind.{Kind}
 use Rattle.boxes.specs.declared.node.Kind.TheVariants.{Leaf, Split, Shrink}
 use Rattle.boxes.specs.declared.node.Node.{Node}
-use Rattle.boxes.specs.contracts.node.Kind.{the_type}
-use denote.Enum.Bare.{sameb}
 
 -- node x, as the code read it
 read : (ns : List Node) (x : ℕ) (n : Node) → x < length ns → node_at ns x ≡ node_of (get_or ns x n)
 read ns x n l = ap node_of (get_or_default ns x blank n l)
 
-read_is : (ns : List Node) (x : ℕ) (n : Node) → x < length ns → n ≡ get_or ns x n → node_at ns x ≡ node_of n
-read_is ns x n l e = read ns x n l ∙ ap node_of (sym e)
+parted : (k : Kind) (p q : ℕ) → Some (p, q) ≡ children_of k → parts (kind_of k) ≡ true
+parted Leaf p q e = cc
+parted (Split l u) p q e = refl
+parted (Shrink c r) p q e = refl
 
--- the code's test says that a kind is not the leaf's
-pub no_leaf : (k : Kind) → false ≡ sameb the_type k Leaf → k ≡ Leaf → ⊥
-no_leaf Leaf h e = cc
-no_leaf Split h e = cc
-no_leaf Shrink h e = cc
+-- node x of the tree ns was read, which has the children p and q, and then the first of them
+module _ (ns : List Node) (rules : Rules (length ns) (node_at ns)) (v : ℕ → ℕ) (x : ℕ) (l : x < length ns) (n : Node) (p q : ℕ) (e : Some (p, q) ≡ children_of (get_or ns x n).kind) where
+  has_children : parts (node_at ns x).kind ≡ true
+  has_children = ap (λ (y : trees.Node). parts y.kind) (read ns x n l) ∙ parted (get_or ns x n).kind p q e
 
-parted : (k : Kind) → (k ≡ Leaf → ⊥) → parts (kind_of k) ≡ true
-parted Leaf h = absurd (h refl)
-parted Split h = refl
-parted Shrink h = refl
+  links_are : links_of (get_or ns x n).kind ≡ (p, q)
+  links_are = ap (λ o. unwrap_or o (0, 0)) (sym e)
 
--- node x of a tree of m nodes was read as n
-module _ (ns : List Node) (m : ℕ) (rules : Rules m (node_at ns)) (room : m ≤ length ns) (x : ℕ) (l : x < m) (n : Node) (is : n ≡ get_or ns x n) where
-  r : node_at ns x ≡ node_of n
-  r = read_is ns x n (omega arith) is
+  first_is : (node_at ns x).first ≡ p
+  first_is = ap (λ (y : trees.Node). y.first) (read ns x n l) ∙ ap (λ (t : ℕ × ℕ). t.0) links_are
 
-  kind_is : (node_at ns x).kind ≡ kind_of n.kind
-  kind_is = ap (λ (y : trees.Node). y.kind) r
+  second_is : (node_at ns x).second ≡ q
+  second_is = ap (λ (y : trees.Node). y.second) (read ns x n l) ∙ ap (λ (t : ℕ × ℕ). t.1) links_are
 
-  first_is : (node_at ns x).first ≡ n.first
-  first_is = ap (λ (y : trees.Node). y.first) r
+  pub ups : (x < p) × (p < length ns) × (x < q) × (q < length ns)
+  ups =
+      let u = rules.links x l has_children in
+      let a = first_is in
+      let b = second_is in
+      (omega (arith, u.0), omega (arith, u.1), omega (arith, u.2), omega (arith, u.3))
 
-  second_is : (node_at ns x).second ≡ n.second
-  second_is = ap (λ (y : trees.Node). y.second) r
+  module _ (f : Node) where
+    covers_read : covers (node_at ns (node_at ns x).first).box v ≡ covers (box_of (get_or ns p f).bounds) v
+    covers_read =
+        ap (λ y. covers (node_at ns y).box v) first_is ∙ ap (λ (y : trees.Node). covers y.box v) (read ns p f ups.1)
 
-  pub at_leaf : n.kind ≡ Leaf → (node_at ns x).kind ≡ trees.leaf
-  at_leaf e = kind_is ∙ ap kind_of e
+    pub to_first : true ≡ covers (box_of (get_or ns p f).bounds) v → Goes (node_at ns) v (length ns) x (Some p)
+    to_first c =
+        let a = next_first (length ns) (node_at ns) rules v x l has_children ∙ covers_read ∙ sym c in
+        (rw first_is at a, ups.0, ups.1)
 
-  module _ (h : n.kind ≡ Leaf → ⊥) where
-    has_children : parts (node_at ns x).kind ≡ true
-    has_children = ap parts kind_is ∙ parted n.kind h
-
-    pub ups : (x < n.first) × (n.first < m) × (x < n.second) × (n.second < m)
-    ups =
-        let u = rules.links x l has_children in
-        let e = first_is in
-        let f = second_is in
-        (subst (λ y. x < y) e u.0, subst (λ y. y < m) e u.1, subst (λ y. x < y) f u.2, subst (λ y. y < m) f u.3)
-
-    -- the first child was read as f
-    module _ (v : ℕ → ℕ) (f : Node) (f-is : f ≡ get_or ns n.first f) where
-      covers_read : covers (node_at ns (node_at ns x).first).box v ≡ covers (box_of f.bounds) v
-      covers_read =
-          let u = ups in
-          let e = first_is in
-          ap (λ y. covers (node_at ns y).box v) e ∙ ap (λ (y : trees.Node). covers y.box v) (read_is ns n.first f (omega (arith, u.1)) f-is)
-
-      pub to_first : true ≡ covers (box_of f.bounds) v → Goes (node_at ns) v m x (Some n.first)
-      to_first c =
-          let p = next_first m (node_at ns) rules v x l has_children in
-          (subst (λ y. next (node_at ns) v x y ≡ true) first_is (p ∙ covers_read ∙ sym c), ups.0, ups.1)
-
-      pub to_second : false ≡ covers (box_of f.bounds) v → Goes (node_at ns) v m x (Some n.second)
-      to_second c =
-          let p = next_second m (node_at ns) rules v x l has_children in
-          (subst (λ y. next (node_at ns) v x y ≡ true) second_is (p ∙ ap not (covers_read ∙ sym c)), ups.2, ups.3)
+    pub to_second : false ≡ covers (box_of (get_or ns p f).bounds) v → Goes (node_at ns) v (length ns) x (Some q)
+    to_second c =
+        let a = next_second (length ns) (node_at ns) rules v x l has_children ∙ ap not (covers_read ∙ sym c) in
+        (rw second_is at a, ups.2, ups.3)

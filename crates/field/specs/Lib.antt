@@ -1,3 +1,3 @@
-pub mod Changes
 pub mod Examples
 pub mod Fields
+pub mod Paths

@@ -2,8 +2,6 @@
 ghost use Rattle.field.specs.Examples.{Examples};
 
 // Holds no code: its contract is the statement.
-pub fn examples_hold() -> u8
+pub fn examples_hold()
     ensures { Examples }
-{
-    0
-}
+{}

@@ -2,6 +2,7 @@
 use super::Field;
 use boxes::{Kind, Node};
 use samples::Refusal;
+use std::array;
 use std::process::Abort;
 use std::test::Fail;
 
@@ -11,28 +12,17 @@ fn node(rt: &impl Abort, field: &Field, number: usize) -> Node {
     nodes[number]
 }
 
-fn check_links(
-    rt: &impl Abort,
-    field: &Field,
-    number: usize,
-    kind: Kind,
-    depth: u8,
-    first: u16,
-    second: u16,
-) {
+fn check_links(rt: &impl Abort, field: &Field, number: usize, kind: Kind, depth: u8) {
     let found = node(rt, field, number);
     assert_eq!(rt; found.kind, kind);
     assert_eq!(rt; found.bounds.depth(), depth);
-    assert_eq!(rt; found.first, first);
-    assert_eq!(rt; found.second, second);
 }
 
 fn five() -> Result<Field, Fail> {
     let mut field = Field::new();
     let samples = [(1, 10), (1, 12), (2, 600), (2, 610), (3, 14)];
-    for slot in 0..5u16 {
-        let (fibre, value) = samples[slot as usize];
-        field.admit(slot, fibre, &[value, 0, 0, 0, 0, 0, 0, 0])?;
+    for (slot, (fibre, value)) in samples.into_iter().enumerate() {
+        field.admit(slot as u16, fibre, &[value, 0, 0, 0, 0, 0, 0, 0])?;
     }
     field.rebuild();
     Ok(field)
@@ -42,15 +32,15 @@ fn five() -> Result<Field, Fail> {
 fn made_with_one_leaf(rt: HostRuntime) {
     let field = Field::new();
     assert_eq!(rt; field.nodes().len(), 1);
-    check_links(&rt, &field, 0, Kind::Leaf, 0, 0, 0);
+    check_links(&rt, &field, 0, Kind::Leaf, 0);
 }
 
 #[test]
 fn split_at_the_middle(rt: HostRuntime) -> Result<(), Fail> {
     let field = five()?;
     assert_eq!(rt; field.nodes().len(), 3);
-    check_links(&rt, &field, 0, Kind::Split, 0, 1, 2);
-    check_links(&rt, &field, 1, Kind::Leaf, 1, 0, 0);
+    check_links(&rt, &field, 0, Kind::Split { lower: 1, upper: 2 }, 0);
+    check_links(&rt, &field, 1, Kind::Leaf, 1);
     assert_eq!(rt; node(&rt, &field, 0).counts, [0, 2, 2, 1, 0, 0, 0, 0]);
     assert_eq!(rt; field.leaf_of(&[511, 0, 0, 0, 0, 0, 0, 0]), 1);
     assert_eq!(rt; field.leaf_of(&[512, 0, 0, 0, 0, 0, 0, 0]), 2);
@@ -65,8 +55,8 @@ fn equal_readings_and_a_rim(rt: HostRuntime) -> Result<(), Fail> {
     }
     field.rebuild();
     assert_eq!(rt; field.nodes().len(), 3);
-    check_links(&rt, &field, 0, Kind::Shrink, 0, 1, 2);
-    check_links(&rt, &field, 1, Kind::Leaf, 80, 0, 0);
+    check_links(&rt, &field, 0, Kind::Shrink { core: 1, rim: 2 }, 0);
+    check_links(&rt, &field, 1, Kind::Leaf, 80);
     field.admit(9, 5, &[700, 700, 700, 700, 700, 700, 700, 701])?;
     assert_eq!(rt; field.nodes().len(), 3);
     assert_eq!(rt; node(&rt, &field, 2).counts, [0, 0, 0, 0, 0, 1, 0, 0]);
@@ -88,8 +78,8 @@ fn cluster_shrinks_then_splits(rt: HostRuntime) -> Result<(), Fail> {
     }
     field.rebuild();
     assert_eq!(rt; field.nodes().len(), 5);
-    check_links(&rt, &field, 0, Kind::Shrink, 0, 1, 4);
-    check_links(&rt, &field, 1, Kind::Split, 40, 2, 3);
+    check_links(&rt, &field, 0, Kind::Shrink { core: 1, rim: 4 }, 0);
+    check_links(&rt, &field, 1, Kind::Split { lower: 2, upper: 3 }, 40);
     assert_eq!(rt;
         *node(&rt, &field, 3).bounds.corner(),
         [304, 288, 288, 288, 288, 288, 288, 288]
@@ -105,22 +95,30 @@ fn all_slots(rt: HostRuntime) -> Result<(), Fail> {
     }
     field.rebuild();
     assert_eq!(rt; field.nodes().len(), 253);
-    check_links(&rt, &field, 0, Kind::Split, 0, 1, 120);
+    check_links(
+        &rt,
+        &field,
+        0,
+        Kind::Split {
+            lower: 1,
+            upper: 120,
+        },
+        0,
+    );
     assert_eq!(rt; field.leaf_of(&scattered(17)), 102);
     assert_eq!(rt; field.leaf_of(&scattered(255)), 185);
     Ok(())
 }
 
 fn scattered(slot: u32) -> [u16; 8] {
-    let mut values = [0; 8];
-    for band in 0..8u32 {
+    array::from_fn(|band| {
+        let band = band as u32;
         let mixed = (slot.wrapping_mul(slot).wrapping_mul(7))
             .wrapping_add(slot.wrapping_mul(73))
             .wrapping_add(band * 191)
             .wrapping_add(slot.wrapping_mul(band).wrapping_mul(29));
-        values[band as usize] = (mixed % 1024) as u16;
-    }
-    values
+        (mixed % 1024) as u16
+    })
 }
 
 #[test]

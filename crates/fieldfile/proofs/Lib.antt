@@ -1,2 +1,3 @@
-pub mod Putting
+pub mod Adding
 pub mod Lengths
+pub mod Putting

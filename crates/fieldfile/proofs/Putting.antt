@@ -1,15 +1,11 @@
 -- What is written piece by piece. Assumes nothing.
-use Rattle.std.proofs.Common.{◌≡◌, ℕ, zero, suc, ◌+◌, ◌*◌, ◌<◌, ◌≤◌, List, [], ◌∷◌, ◌++◌, length, take, drop, set, sym, refl, ap, ◌∙◌, append_assoc, add-zero, mul-zero, zero-add, mul-suc, add-one, arith, length-append, length-drop, take-append-drop, length-take}
-use Rattle.std.proofs.lemmas.List.{take_at, drop_at, drop-drop, length-take-le, set_split}
+use Rattle.std.proofs.Common.{◌≡◌, ℕ, zero, suc, ◌+◌, ◌*◌, ◌≤◌, List, [], ◌++◌, length, take, drop, sym, refl, ap, ◌∙◌, append_assoc, add-zero, mul-zero, zero-add, mul-suc, add-one, arith, length-append, length-drop, take-append-drop, length-take}
+use Rattle.std.proofs.lemmas.List.{take_at, drop_at, drop-drop, length-take-le}
 use Rattle.fieldfile.specs.Bytes.{put, pieces, le2, row}
 
 pub put_none : (xs : List ℕ) (at : ℕ) → xs ≡ put xs at []
 unfolding put
 put_none xs at = sym (rw (add-zero at) (take-append-drop at xs))
-
-pub put_one : (xs : List ℕ) (at b : ℕ) → at < length xs → set xs at b ≡ put xs at (b ∷ [])
-unfolding put
-put_one xs at b h = let e : at + 1 ≡ suc at = omega arith in rw e (set_split xs at b h)
 
 pub put_front : (xs bs : List ℕ) → put xs 0 bs ≡ bs ++ drop (length bs) xs
 unfolding put
@@ -19,7 +15,8 @@ pub length_put : (xs : List ℕ) (at : ℕ) (bs : List ℕ) → at + length bs �
 unfolding put
 length_put xs at bs h = simp (length-append, length-take, length-drop) (omega arith)
 
-put_put : (xs : List ℕ) (at : ℕ) (cs bs : List ℕ) (to : ℕ) → at + length cs ≡ to → to ≤ length xs → put (put xs at cs) to bs ≡ put xs at (cs ++ bs)
+-- bs behind cs, which was written from `at` on
+pub put_put : (xs : List ℕ) (at : ℕ) (cs bs : List ℕ) (to : ℕ) → at + length cs ≡ to → to ≤ length xs → put (put xs at cs) to bs ≡ put xs at (cs ++ bs)
 unfolding put
 put_put xs at cs bs to e h =
     let whole : put xs at cs ≡ (take at xs ++ cs) ++ drop (at + length cs) xs = sym (append_assoc (take at xs) cs _) in
@@ -30,10 +27,6 @@ put_put xs at cs bs to e h =
     ∙ drop-drop (length bs) (at + length cs) xs ∙ ap (λ n. drop n xs) (let l = length-append cs bs in omega arith)
     in
     (λ i. front i ++ (bs ++ back i)) ∙ append_assoc (take at xs) cs _ ∙ ap (λ l. take at xs ++ l) (sym (append_assoc cs bs _))
-
--- bs behind cs, which was written from `at` on
-pub then_put : (xs : List ℕ) (at : ℕ) (cs bs : List ℕ) (to : ℕ) {ys zs : List ℕ} → ys ≡ put xs at cs → zs ≡ put ys to bs → at + length cs ≡ to → to ≤ length xs → zs ≡ put xs at (cs ++ bs)
-then_put xs at cs bs to first then' e h = then' ∙ ap (λ l. put l to bs) first ∙ put_put xs at cs bs to e h
 
 pub pieces_none : (f : ℕ → List ℕ) → pieces f 0 ≡ []
 unfolding pieces

@@ -1,4 +1,5 @@
 pub mod Bytes
+pub mod Cursors
 pub mod Format
 pub mod Outlines
 pub mod Parts

@@ -1,11 +1,13 @@
 // A field written as a file.
-ghost use Rattle.std.specs.Prelude.{◌≡◌, ◌+◌, ◌*◌, ◌≤◌, length};
+ghost use Rattle.std.specs.Prelude.{◌≡◌, ◌*◌, ◌≤◌};
 ghost use Rattle.field.specs.Fields.{holds, node_count};
 ghost use Rattle.samples.specs.Verdict.{samples};
-ghost use Rattle.fieldfile.specs.Bytes.{put};
+ghost use Rattle.fieldfile.specs.Cursors.{left, Adds};
 ghost use Rattle.fieldfile.specs.Format.{samples_bytes, nodes_bytes, file_of, Writes};
 
-use super::records::{NODE_BYTES, SAMPLE_BYTES, TRAILER_BYTES, put_node, put_sample, put_trailer};
+use super::cursor::Cursor;
+use super::outline::Outline;
+use super::records::{NODE_BYTES, SAMPLE_BYTES, TRAILER_BYTES};
 use drawing::MAX_NODES;
 use field::Field;
 use samples::{Refusal, SLOTS};
@@ -17,42 +19,53 @@ pub const MAX_FILE: usize = SAMPLE_BYTES * SLOTS + NODE_BYTES * MAX_NODES + TRAI
 pub fn write(field: &Field, out: &mut [u8]) -> Result<usize, Refusal>
     ensures { Writes (file_of field.now) out.old out.new result }
 {
-    let samples = field.slots().count();
-    let nodes = field.nodes().len();
-    if out.len() < SAMPLE_BYTES * samples as usize + NODE_BYTES * nodes + TRAILER_BYTES {
+    let outline = Outline::of(field);
+    let len = outline.file_len();
+    if out.len() < len {
         return Err(Refusal::BufferTooSmall);
     }
-    let nodes_at = put_samples(out, field);
-    let trailer_at = put_nodes(out, nodes_at, field);
-    Ok(put_trailer(out, trailer_at, samples, nodes as u16))
+    let mut file = Cursor::new(out);
+    file.put_samples(field);
+    file.put_nodes(field);
+    file.put_trailer(outline);
+    Ok(len)
 }
 
-// The sample records, in rising slot order, from the start of the buffer.
-fn put_samples(out: &mut [u8], field: &Field) -> usize
-    requires { 20 * samples (holds field.now) ≤ length out.old }
-    ensures next { result ≡ 20 * samples (holds field.now) }
-    ensures bytes { out.new ≡ put out.old 0 (samples_bytes field.now 256) }
-{
-    let mut at = 0;
-    for slot in 0..SLOTS as u16 {
-        if let Some(sample) = field.sample(slot) {
-            let leaf = field.leaf_of(sample.values());
-            at = put_sample(out, at, slot as u8, leaf as u16, &sample);
+impl Outline {
+    // The outline of a field's file.
+    fn of(field: &Field) -> Outline
+        ensures samples { result.samples ≡ samples (holds field.now) }
+        ensures nodes { result.nodes ≡ node_count field.now }
+    {
+        Outline {
+            samples: field.slots().count(),
+            nodes: field.nodes().len() as u16,
         }
     }
-    at
 }
 
-// The node records, in number order.
-fn put_nodes(out: &mut [u8], from: usize, field: &Field) -> usize
-    requires { from + 38 * node_count field.now ≤ length out.old }
-    ensures next { result ≡ from + 38 * node_count field.now }
-    ensures bytes { out.new ≡ put out.old from (nodes_bytes field.now (node_count field.now)) }
-{
-    let nodes = field.nodes();
-    let mut at = from;
-    for number in 0..nodes.len() {
-        at = put_node(out, at, &nodes[number]);
+impl Cursor<'_> {
+    // The sample records, in rising slot order.
+    fn put_samples(&mut self, field: &Field)
+        requires { 20 * samples (holds field.now) ≤ left self.old }
+        ensures { Adds self.old self.new (samples_bytes field.now 256) }
+    {
+        // By the number of the slot, which stands in the record.
+        for slot in 0..SLOTS as u16 {
+            if let Some(sample) = field.sample(slot) {
+                let leaf = field.leaf_of(sample.values());
+                self.put_sample(slot as u8, leaf as u16, &sample);
+            }
+        }
     }
-    at
+
+    // The node records, in number order.
+    fn put_nodes(&mut self, field: &Field)
+        requires { 38 * node_count field.now ≤ left self.old }
+        ensures { Adds self.old self.new (nodes_bytes field.now (node_count field.now)) }
+    {
+        for node in field.nodes() {
+            self.put_node(node);
+        }
+    }
 }

@@ -1,10 +1,10 @@
 // The field file: a field as bytes.
 #![tactic(auto)]
 
+mod cursor;
 mod file;
 mod outline;
 mod parts;
-mod put;
 mod records;
 #[cfg(test)]
 mod tests;

@@ -1,6 +1,7 @@
 // The end of a file: how many records its trailer says there are, and the first two checks.
-ghost use Rattle.std.specs.Prelude.{◌≡◌, ◌+◌, ◌≤◌, length};
-ghost use Rattle.fieldfile.specs.Outlines.{two, four, marked, fits, outline_rule};
+ghost use Rattle.std.specs.Prelude.{◌≡◌, ◌+◌, ◌*◌, ◌≤◌, cond, length, take, drop};
+ghost use Rattle.std.specs.Option.{option_map};
+ghost use Rattle.fieldfile.specs.Outlines.{end, marked, agreed, outline_rule};
 
 use super::records::{MARK, NODE_BYTES, SAMPLE_BYTES, TRAILER_BYTES};
 use drawing::MAX_NODES;
@@ -22,61 +23,69 @@ pub struct Outline {
     pub nodes: u16,
 }
 
+impl Outline {
+    // The way back from the trailer to the node records.
+    pub(crate) fn back_to_nodes(self) -> u32
+        ensures { result ≡ 38 * self.nodes }
+    {
+        NODE_BYTES as u32 * u32::from(self.nodes)
+    }
+
+    // The way back from the trailer to the sample records.
+    pub(crate) fn back_to_samples(self) -> u32
+        ensures { result ≡ 38 * self.nodes + 20 * self.samples }
+    {
+        self.back_to_nodes() + SAMPLE_BYTES as u32 * u32::from(self.samples)
+    }
+
+    // How long the file is.
+    pub(crate) fn file_len(self) -> usize
+        ensures { result ≡ 20 * self.samples + 38 * self.nodes + 14 }
+    {
+        self.back_to_samples() as usize + TRAILER_BYTES
+    }
+
+    // Whether the counts are in range and fit these ways back and this length.
+    fn agrees(self, to_nodes: u32, to_samples: u32, len: usize) -> bool
+        ensures { result ≡ agreed self to_nodes to_samples len }
+    {
+        usize::from(self.samples) <= SLOTS
+            && (1..=MAX_NODES).contains(&usize::from(self.nodes))
+            && to_nodes == self.back_to_nodes()
+            && to_samples == self.back_to_samples()
+            && len == self.file_len()
+    }
+}
+
 // What the trailer of a file says, if it fits the file.
 pub fn read_outline(file: &[u8]) -> Result<Outline, Check>
     ensures { result ≡ outline_rule file.now }
 {
-    if !is_marked(file) {
-        return Err(Check::Mark);
-    }
-    let end = file.len() - TRAILER_BYTES;
-    let samples = u16_at(file, end);
-    let nodes = u16_at(file, end + 2);
-    if !is_laid_out(file, samples, nodes) {
-        return Err(Check::Layout);
-    }
-    Ok(Outline { samples, nodes })
+    let trailer = trailer_of(file).ok_or(Check::Mark)?;
+    let outline = Outline {
+        samples: u16::from_le_bytes(bytes_at(trailer, 0)),
+        nodes: u16::from_le_bytes(bytes_at(trailer, 2)),
+    };
+    let to_nodes = u32::from_le_bytes(bytes_at(trailer, 4));
+    let to_samples = u32::from_le_bytes(bytes_at(trailer, 8));
+    outline
+        .agrees(to_nodes, to_samples, file.len())
+        .then_some(outline)
+        .ok_or(Check::Layout)
 }
 
-fn is_marked(file: &[u8]) -> bool
-    ensures { result ≡ marked file.now }
+// The last 14 bytes of a file, if they end with the mark.
+fn trailer_of(file: &[u8]) -> Option<&[u8; TRAILER_BYTES]>
+    ensures { option_map (λ t. t.now) result ≡ cond (marked file.now) (Some (drop (end file.now) file.now)) None }
 {
-    if file.len() < TRAILER_BYTES {
-        return false;
-    }
-    let end = file.len() - TRAILER_BYTES;
-    file[end + 12] == MARK[0] && file[end + 13] == MARK[1]
+    let trailer = file.last_chunk()?;
+    trailer.ends_with(&MARK).then_some(trailer)
 }
 
-// Whether these counts are in range and fit the ways back and the length.
-fn is_laid_out(file: &[u8], samples: u16, nodes: u16) -> bool
-    requires { 14 ≤ length file.now }
-    ensures { result ≡ fits file.now samples nodes }
+// The N bytes from `at` on.
+fn bytes_at<const N: usize>(bytes: &[u8], at: usize) -> [u8; N]
+    requires { at + N ≤ length bytes.now }
+    ensures { result ≡ take N (drop at bytes.now) }
 {
-    let end = file.len() - TRAILER_BYTES;
-    let to_nodes = NODE_BYTES * nodes as usize;
-    let to_samples = to_nodes + SAMPLE_BYTES * samples as usize;
-    let said_nodes = u32_at(file, end + 4) as usize;
-    let said_samples = u32_at(file, end + 8) as usize;
-    if samples as usize > SLOTS || nodes == 0 || nodes as usize > MAX_NODES {
-        return false;
-    }
-    if said_nodes != to_nodes || said_samples != to_samples {
-        return false;
-    }
-    file.len() == to_samples + TRAILER_BYTES
-}
-
-fn u16_at(bytes: &[u8], at: usize) -> u16
-    requires { at + 2 ≤ length bytes.now }
-    ensures { result ≡ two bytes.now at }
-{
-    u16::from(bytes[at]) + 256 * u16::from(bytes[at + 1])
-}
-
-fn u32_at(bytes: &[u8], at: usize) -> u32
-    requires { at + 4 ≤ length bytes.now }
-    ensures { result ≡ four bytes.now at }
-{
-    u32::from(u16_at(bytes, at)) + 65_536 * u32::from(u16_at(bytes, at + 2))
+    *bytes[at..].first_chunk().unwrap()
 }

@@ -34,9 +34,8 @@ const TRAILER: [u8; 14] = [5, 0, 3, 0, 114, 0, 0, 0, 214, 0, 0, 0, 70, 54];
 fn example() -> Result<Field, Fail> {
     let mut field = Field::new();
     let samples = [(1, 10), (1, 12), (2, 600), (2, 610), (3, 14)];
-    for slot in 0..5u16 {
-        let (fibre, value) = samples[slot as usize];
-        field.admit(slot, fibre, &[value, 0, 0, 0, 0, 0, 0, 0])?;
+    for (slot, (fibre, value)) in samples.into_iter().enumerate() {
+        field.admit(slot as u16, fibre, &[value, 0, 0, 0, 0, 0, 0, 0])?;
     }
     field.rebuild();
     Ok(field)
@@ -46,21 +45,11 @@ fn example() -> Result<Field, Fail> {
 fn example_is_228_bytes(rt: HostRuntime) -> Result<(), Fail> {
     let mut out = [0xAA; 230];
     assert_eq!(rt; write(&example()?, &mut out), Ok(228));
-    for record in 0..5usize {
-        for i in 0..20usize {
-            assert_eq!(rt; out[20 * record + i], SAMPLES[record][i]);
-        }
-    }
-    for record in 0..3usize {
-        for i in 0..38usize {
-            assert_eq!(rt; out[100 + 38 * record + i], NODES[record][i]);
-        }
-    }
-    for i in 0..14usize {
-        assert_eq!(rt; out[214 + i], TRAILER[i]);
-    }
-    assert_eq!(rt; out[228], 0xAA);
-    assert_eq!(rt; out[229], 0xAA);
+    let mut file = [0xAA; 230];
+    file[..100].copy_from_slice(SAMPLES.as_flattened());
+    file[100..214].copy_from_slice(NODES.as_flattened());
+    file[214..228].copy_from_slice(&TRAILER);
+    assert_eq!(rt; out, file);
     Ok(())
 }
 
@@ -68,22 +57,17 @@ fn example_is_228_bytes(rt: HostRuntime) -> Result<(), Fail> {
 fn empty_field_is_52_bytes(rt: HostRuntime) {
     let mut out = [0xAA; 52];
     assert_eq!(rt; write(&Field::new(), &mut out), Ok(52));
-    for i in 0..38usize {
-        assert_eq!(rt; out[i], 0);
-    }
     let trailer = [0, 0, 1, 0, 38, 0, 0, 0, 38, 0, 0, 0, 0x46, 0x36];
-    for i in 0..14usize {
-        assert_eq!(rt; out[38 + i], trailer[i]);
-    }
+    let mut file = [0; 52];
+    file[38..].copy_from_slice(&trailer);
+    assert_eq!(rt; out, file);
 }
 
 #[test]
 fn short_buffer_is_kept(rt: HostRuntime) -> Result<(), Fail> {
     let mut out = [0xAA; 227];
     assert_eq!(rt; write(&example()?, &mut out), Err(Refusal::BufferTooSmall));
-    for i in 0..227usize {
-        assert_eq!(rt; out[i], 0xAA);
-    }
+    assert_eq!(rt; out, [0xAA; 227]);
     Ok(())
 }
 
@@ -110,8 +94,7 @@ fn trailers_with_one_byte_changed(rt: HostRuntime) -> Result<(), Fail> {
         nodes: 3,
     };
     assert_eq!(rt; read_outline(&file), Ok(outline));
-    for fault in 0..10usize {
-        let (at, byte, fails) = FAULTS[fault];
+    for (at, byte, fails) in FAULTS {
         assert!(rt; at < 14);
         let mut changed = file;
         changed[214 + at] = byte;
@@ -145,10 +128,8 @@ fn empty_file_cut_and_extended(rt: HostRuntime) -> Result<(), Fail> {
     let mut empty = [0; 52];
     write(&Field::new(), &mut empty)?;
     let mut file = [0; 68];
-    for i in 0..52usize {
-        file[8 + i] = empty[i];
-    }
-    for len in 0..61usize {
+    file[8..60].copy_from_slice(&empty);
+    for len in 0..=60 {
         check_cut(&rt, &file, len)?;
     }
     Ok(())

@@ -1,4 +1,4 @@
-use Rattle.std.proofs.Common.{◌≡◌, ℕ, ◌-◌, take, ap, arith}
+use Rattle.std.proofs.Common.{length, ap, arith, rules}
 use Rattle.boxes.specs.Views.{box_of}
 use Rattle.trees.specs.Drawing.{size}
 use Rattle.trees.proofs.Drawn.{rebuilt_size}
@@ -10,33 +10,26 @@ pub build_box-requires : goal.build_box-requires
 build_box-requires c =
     let a = held_in c.args.slots.now in
     let k = box_of c.everything.result in
-    let xs = c.gather-held.new.run in
-    let n = c.gather-held.result in
-    let same : n - 0 ≡ n = omega arith in
     let few = rebuilt_size a (omega arith) in
     let s = ap size (plan_whole a k c.everything.ensures) in
+    let none = ap length c.clear.ensures in
     record {
-      run = run_whole a k c.everything.ensures (take n xs) (take (n - 0) xs) (ap (λ (m : ℕ). take m xs) same) c.gather-held.ensures.holds;
+      run = run_whole a k c.everything.ensures c.gather-run.result.items c.deref_mut.result.now c.deref_mut.ensures.value c.gather-run.ensures;
       room = omega arith;
-      most = omega arith;
     }
-
-pub overflow_cast-result : goal.overflow_cast-result
-overflow_cast-result c =
-    let a = held_in c.args.slots.now in
-    let few = rebuilt_size a (omega arith) in
-    let e = whole_size a (box_of c.everything.result) c.everything.ensures c.args.nodes.now c.build_box.new.nodes c.build_box.result c.build_box.ensures in
-    omega arith
 
 pub returns : goal.returns
 returns c =
     let a = held_in c.args.slots.now in
     let k = box_of c.everything.result in
     let all = c.everything.ensures in
-    let old = c.args.nodes.now in
-    let new = c.build_box.new.nodes in
-    let r = c.build_box.result in
-    let b = c.build_box.ensures in
-    let few = rebuilt_size a (omega arith) in
-    let e = whole_size a k all old new r b in
-    record { value = e; bound = omega arith; numbered = whole_numbered a k all old new r b; tallied = whole_tallied a k all old new r b }
+    let drawn = c.build_box.ensures.drawn in
+    let same = c.build_box.ensures.same.nodes in
+    let size = whole_size a k all _ _ c.clear.ensures drawn in
+    let numbered = whole_numbered a k all _ _ c.clear.ensures drawn in
+    let tallied = whole_tallied a k all _ _ c.clear.ensures drawn in
+    record {
+      size = search rules;
+      numbered = search rules;
+      tallied = search rules;
+    }

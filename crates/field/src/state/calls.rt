@@ -1,19 +1,19 @@
 // What a field can be asked and told.
-ghost use Rattle.std.specs.Prelude.{◌≡◌, ℕ, ◌-◌, length, take, replicate, None};
+ghost use Rattle.std.specs.Prelude.{◌≡◌, ℕ, ◌-◌, length, replicate, None};
 ghost use Rattle.boxes.specs.Views.{entries};
 ghost use Rattle.std.specs.Option.{option_map};
 ghost use Rattle.samples.specs.Slots.{at, point, fibre_at, values_at, admit_rule, withdraw_rule};
+ghost use Rattle.trees.specs.Samples.{raised, lowered};
 ghost use Rattle.trees.specs.Trees.{reached};
-ghost use Rattle.field.specs.declared.path.Change.TheVariants.{Raise, Lower};
 ghost use Rattle.field.specs.Fields.{holds, node_count, tree, Bare, Drawn, Recounts};
 
 use super::Field;
-use crate::path::{Change, leaf_of, recount};
-use boxes::{Bounds, Kind, Node};
-use drawing::{MAX_NODES, draw};
+use crate::path::{leaf_of, recount};
+use arrayvec::ArrayVec;
+use boxes::Node;
+use drawing::draw;
 use measure::BANDS;
-use ranking::CODES;
-use samples::{Refusal, SLOTS, Sample, Slots};
+use samples::{Refusal, Sample, Slots};
 
 impl Field {
     // A field that holds nothing: its tree is one leaf.
@@ -22,16 +22,9 @@ impl Field {
         ensures tree { Bare result }
     {
         let slots = Slots::new();
-        let leaf = Node {
-            kind: Kind::Leaf,
-            bounds: Bounds::everything(),
-            first: 0,
-            second: 0,
-            counts: [0; CODES],
-        };
-        let mut nodes = [leaf; MAX_NODES];
-        let len = draw(&slots, &mut nodes);
-        Field { slots, nodes, len }
+        let mut nodes = ArrayVec::new();
+        draw(&slots, &mut nodes);
+        Field { slots, nodes }
     }
 
     // Draws the tree over the samples held.
@@ -39,15 +32,15 @@ impl Field {
         ensures samples { holds self.new ≡ holds self.old }
         ensures tree { Drawn self.new }
     {
-        self.len = draw(&self.slots, &mut self.nodes);
+        draw(&self.slots, &mut self.nodes);
     }
 
     // The nodes of the tree.
     pub fn nodes(&self) -> &[Node]
-        ensures tree { result.now ≡ take self.now.len self.now.nodes }
+        ensures tree { result.now ≡ self.now.nodes.items }
         ensures len { length result.now ≡ node_count self.now }
     {
-        &self.nodes[0..self.len as usize]
+        self.nodes.as_slice()
     }
 
     // The samples held.
@@ -59,42 +52,34 @@ impl Field {
 
     // The number of the leaf in which values belong.
     pub fn leaf_of(&self, values: &[u16; BANDS]) -> usize
-        ensures { result ≡ reached (tree self.now) (entries values.now) (self.now.len - 1) }
+        ensures { result ≡ reached (tree self.now) (entries values.now) (node_count self.now - 1) }
     {
-        leaf_of(&self.nodes, self.len as usize, values)
+        leaf_of(self.nodes(), values)
     }
 
     // Puts a sample into an empty slot and counts it along its path. No box changes.
     pub fn admit(&mut self, slot: u16, fibre: u16, values: &[u16; BANDS]) -> Result<(), Refusal>
         ensures samples { (holds self.new, result) ≡ admit_rule (holds self.old) slot fibre values.now }
-        ensures tree { Recounts Raise fibre (entries values.now) self.old self.new result }
+        ensures tree { Recounts raised fibre (entries values.now) self.old self.new result }
     {
         self.slots.admit(slot, fibre, values)?;
-        recount(
-            &mut self.nodes,
-            self.len as usize,
-            Change::Raise,
-            fibre as u8,
-            values,
-        );
+        let nodes = self.nodes.as_mut_slice();
+        recount(nodes, fibre as u8, values, |count| count + 1);
         Ok(())
     }
 
     // Empties a slot that holds a sample and takes it off the counts on its path. No box changes.
     pub fn withdraw(&mut self, slot: u16) -> Result<(), Refusal>
         ensures samples { (holds self.new, result) ≡ withdraw_rule (holds self.old) slot }
-        ensures tree { Recounts Lower (fibre_at (holds self.old) slot) (entries (values_at (holds self.old) slot)) self.old self.new result }
+        ensures tree { Recounts lowered (fibre_at (holds self.old) slot) (entries (values_at (holds self.old) slot)) self.old self.new result }
     {
         let held = self.sample(slot);
         self.slots.withdraw(slot)?;
         if let Some(sample) = held {
-            recount(
-                &mut self.nodes,
-                self.len as usize,
-                Change::Lower,
-                sample.fibre(),
-                sample.values(),
-            );
+            let nodes = self.nodes.as_mut_slice();
+            recount(nodes, sample.fibre(), sample.values(), |count| {
+                count.saturating_sub(1)
+            });
         }
         Ok(())
     }
@@ -103,9 +88,16 @@ impl Field {
     pub fn sample(&self, slot: u16) -> Option<Sample>
         ensures { option_map point result ≡ at (holds self.now) slot }
     {
-        if slot as usize >= SLOTS {
-            return None;
-        }
-        self.slots.get(slot as u8).copied()
+        let slot = u8::try_from(slot).ok()?;
+        self.slots.get(slot).copied()
+    }
+}
+
+// A field that holds nothing.
+impl Default for Field {
+    ghost is_default = { λ f. (holds f ≡ replicate 256 None) × Bare f };
+
+    fn default() -> Field {
+        Field::new()
     }
 }

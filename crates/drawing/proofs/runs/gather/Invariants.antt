@@ -1,4 +1,4 @@
-use Rattle.std.proofs.Common.{◌≤◌, take}
+use Rattle.std.proofs.Common.{◌≤◌, length}
 use Rattle.trees.specs.Boxes.{everything}
 use Rattle.trees.specs.Drawing.{lodged}
 use Rattle.drawing.specs.Held.{held_in}
@@ -6,4 +6,4 @@ use Rattle.drawing.specs.Runs.{Holds}
 use Rattle.drawing.proofs.runs.gather.Given as goal
 
 abbrev pub invariant-loop-slot : goal.invariant-loop-slot
-invariant-loop-slot l = (l.len ≤ l.slot) × Holds (lodged (held_in l.slots) everything) l.slot (take l.len l.run)
+invariant-loop-slot l = (length l.run.items ≤ l.slot) × Holds (lodged (held_in l.slots) everything) l.slot l.run.items

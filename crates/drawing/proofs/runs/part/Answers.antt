@@ -16,8 +16,8 @@ loop-i-preserved c =
     elim c.if-is_lodged.branch [
       | then-is_lodged w ↦
           parting_at w.run-is w.front-is
-          (parting_swap p xs ys w.swap.new.self m i c.loop-i.invariant (sym w.if-is_lodged.ensures) w.swap.ensures.permutation w.swap.ensures.len w.swap.ensures.by_index)
-      | else-is_lodged w ↦ parting_at w.run-is w.front-is (parting_skip p xs ys m i c.loop-i.invariant (sym w.if-is_lodged.ensures))
+          (parting_swap p xs ys w.swap.new.self m i c.loop-i.invariant (omega arith) (sym w.if-is_lodged.ensures) w.swap.ensures.permutation w.swap.ensures.by_index)
+      | else-is_lodged w ↦ parting_at w.run-is w.front-is (parting_skip p xs ys m i c.loop-i.invariant (omega arith) (sym w.if-is_lodged.ensures))
     ]
 
 pub returns : goal.returns

@@ -1,58 +1,49 @@
-use Rattle.std.proofs.Common.{◌≡◌, ℕ, true, sym, refl, ap, ◌∙◌, subst, arith}
+use Rattle.std.proofs.Common.{◌≡◌, true, length, ◌<◌, arith, sym, refl, ap, ◌∙◌, subst}
 use Rattle.boxes.specs.Views.{entries, node_at}
-use Rattle.trees.specs.Trees as trees
 use Rattle.trees.specs.Trees.{Rules, next}
 use Rattle.trees.proofs.Pathed.{under_root, next_under}
-use Rattle.field.proofs.Marked.{mark_begins, mark_fresh, mark_steps, mark_ends}
+use Rattle.field.proofs.Marked.{mark_begins, mark_steps, mark_ends}
 use Rattle.field.proofs.path.recount.Goals as goal
 
--- trees that agree at every node
-same_tree : (f g : ℕ → trees.Node) → ((y : ℕ) → f y ≡ g y) → f ≡ g
-same_tree f g h = λ i y. h y i
-
 pub loop-next-init : goal.loop-next-init
-loop-next-init c =
+loop-next-init g c =
     let os = c.args.nodes.now in
-    (c.requires.rules.some, under_root (node_at os) (entries c.args.values.now), refl, mark_begins c.args.len os c.requires.rules (entries c.args.values.now) c.args.change c.args.fibre)
+    record {
+      within = c.requires.rules.some;
+      on_path = under_root (node_at os) (entries c.args.values.now);
+      shape = refl;
+      marks = mark_begins _ c.args.fibre (entries c.args.values.now) os c.requires.rules;
+    }
 
-pub touch-requires : goal.touch-requires
-touch-requires c =
-    let os = c.args.nodes.now in
-    let at = c.loop-next.at in
-    let e = mark_fresh c.args.len os c.requires.rules (entries c.args.values.now) c.args.change c.args.fibre c.loop-next.nodes at c.loop-next.invariant.3 c.args.fibre in
-    record { within = omega arith; coded = c.requires.coded; fits = omega (arith, c.requires.fits at c.loop-next.invariant.0) }
-
-pub child_of-requires : goal.child_of-requires
-child_of-requires c =
-    let same = same_tree _ _ c.touch.ensures.shape ∙ c.loop-next.invariant.2 in
-    record { rules = subst (Rules c.args.len) (sym same) c.requires.rules; room = omega arith; within = c.loop-next.invariant.0 }
+pub child_of-requires-clause-rules : goal.child_of-requires-clause-rules
+child_of-requires-clause-rules g c =
+    let same : node_at c.args.nodes.now ≡ node_at c.touch.new.nodes = sym ((λ i y. c.touch.ensures.shape y i) ∙ c.loop-next.invariant.shape) in
+    let long : length c.args.nodes.now ≡ length c.touch.new.nodes = omega arith in
+    subst (λ m. Rules m (node_at c.touch.new.nodes)) long (subst (Rules (length c.args.nodes.now)) same c.requires.rules)
 
 pub loop-next-preserved : goal.loop-next-preserved
-loop-next-preserved c =
+loop-next-preserved g c =
     let os = c.args.nodes.now in
     let v = entries c.args.values.now in
     let at = c.loop-next.at in
     let z = c.in-Some.next in
     let inv = c.loop-next.invariant in
-    let same = same_tree _ _ c.touch.ensures.shape ∙ inv.2 in
+    let same : node_at c.touch.new.nodes ≡ node_at os = (λ i y. c.touch.ensures.shape y i) ∙ inv.shape in
     let goes = c.in-Some.ensures in
-    let n : next (node_at os) v at z ≡ true = ap (λ t. next t v at z) (sym same) ∙ goes.0 in (
-      goes.2,
-      next_under c.args.len (node_at os) c.requires.rules v at z inv.0 inv.1 n,
-      same,
-      mark_steps c.args.len os c.requires.rules v c.args.change c.args.fibre c.loop-next.nodes c.touch.new.nodes at inv.0 inv.1 inv.3 c.touch.ensures.counts z n goes.1,
-    )
+    let n : next (node_at os) v at z ≡ true = ap (λ t. next t v at z) (sym same) ∙ goes.0 in
+    let l : at < length os = omega arith in
+    record {
+      within = goes.2;
+      on_path = next_under (length os) (node_at os) c.requires.rules v at z l inv.on_path n;
+      shape = same;
+      marks = mark_steps _ c.args.fibre v os c.requires.rules c.loop-next.nodes c.touch.new.nodes at l inv.on_path inv.marks c.touch.ensures.changed c.touch.ensures.kept z n goes.1;
+    }
 
 pub returns-in_default : goal.returns-in_default
-returns-in_default c =
+returns-in_default g c =
     let os = c.args.nodes.now in
-    let v = entries c.args.values.now in
     let at = c.loop-next.at in
     let inv = c.loop-next.invariant in
-    let same = same_tree _ _ c.touch.ensures.shape ∙ inv.2 in
-    record {
-      shape = λ x. ap (λ t. t x) same;
-      counts = λ x f l.
-          mark_ends c.args.len os c.requires.rules v c.args.change c.args.fibre c.loop-next.nodes c.touch.new.nodes at inv.0 inv.1 inv.3 c.touch.ensures.counts
-          (ap (λ t. (t at).kind) (sym same) ∙ c.in_default.ensures) x f;
-    }
+    let same : node_at c.touch.new.nodes ≡ node_at os = (λ i y. c.touch.ensures.shape y i) ∙ inv.shape in
+    let m = mark_ends _ c.args.fibre (entries c.args.values.now) os c.requires.rules c.loop-next.nodes c.touch.new.nodes at (omega arith) inv.on_path inv.marks c.touch.ensures.changed c.touch.ensures.kept (ap (λ t. (t at).kind) (sym same) ∙ c.in_default.ensures) in
+    record { shape = λ x. ap (λ t. t x) same; changed = m.changed; kept = λ x f. m.kept x f }

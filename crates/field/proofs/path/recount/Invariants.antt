@@ -1,13 +1,18 @@
-use Rattle.std.proofs.Common.{◌≡◌, ◌-◌, ◌<◌, true}
+use Rattle.std.proofs.Common.{◌≡◌, ◌-◌, ◌<◌, ◌&&◌, true, ltb, length}
 use Rattle.boxes.specs.Views.{entries, node_at}
 use Rattle.trees.specs.Trees.{under}
 use Rattle.field.proofs.Marked.{Marks}
 use Rattle.field.proofs.path.recount.Given as goal
 
 abbrev pub invariant-loop-next : goal.invariant-loop-next
-invariant-loop-next l =
+invariant-loop-next g l =
     let os = l.initial.nodes in
-    (l.at < l.len) × (under (node_at os) (entries l.values) l.at ≡ true) × (node_at l.nodes ≡ node_at os) × Marks os (entries l.values) l.change l.fibre l.nodes l.at
+    record {
+      within : l.at < length l.nodes;
+      on_path : under (node_at os) (entries l.values) l.at ≡ true;
+      shape : node_at l.nodes ≡ node_at os;
+      marks : Marks (goal.F-post g l.change) l.fibre (λ y. under (node_at os) (entries l.values) y && ltb y l.at) os l.nodes;
+    }
 
 abbrev pub decreases-loop-next : goal.decreases-loop-next
-decreases-loop-next l = l.len - l.at
+decreases-loop-next g l = length l.nodes - l.at

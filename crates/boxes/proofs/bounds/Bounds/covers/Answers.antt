@@ -1,11 +1,10 @@
-use Rattle.std.proofs.Common.{sym, arith}
-use Rattle.trees.proofs.Boxed.{covers_from, covers_not}
+use Rattle.std.proofs.Common.{rules}
+use Rattle.std.proofs.iter.runs.Sources.{ranges}
+use Rattle.trees.specs.Boxes.{spans, covers}
 use Rattle.boxes.specs.Views.{box_of, entries}
+use Rattle.boxes.proofs.Viewed.{every_is}
 use Rattle.boxes.proofs.bounds.Bounds.covers.Goals as goal
 
-pub returns-then-not-spans : goal.returns-then-not-spans
-returns-then-not-spans c =
-    sym (covers_not (box_of c.args.self.now) (entries c.args.values.now) c.loop-band.band (omega arith) (sym c.if-not-spans.ensures))
-
 pub returns : goal.returns
-returns c = sym (covers_from (box_of c.args.self.now) (entries c.args.values.now) (λ b l. c.loop-band.invariant b (omega arith)))
+unfolding covers spans
+returns c = every_is (λ b. spans (box_of c.args.self.now) b (entries c.args.values.now b)) 8 c.all.result (search (rules, ranges))

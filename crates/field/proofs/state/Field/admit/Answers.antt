@@ -1,32 +1,46 @@
-use Rattle.std.proofs.Common.{arith}
+use Rattle.std.proofs.Common.{◌≡◌, ℕ, ◌+◌, true, arith, rules}
+use Rattle.arrayvec.specs.ArrayVec.{with_items}
 use Rattle.samples.specs.Slots.{table}
 use Rattle.samples.proofs.Tabled.{admitted_says, length_table}
-use Rattle.trees.proofs.Lawfully.{rules_from_lawful, right_says}
-use Rattle.boxes.specs.Views.{node_at, counts_at}
-use Rattle.field.proofs.Refreshed.{right_few}
-use Rattle.field.proofs.Upheld.{rules_upheld, admit_upheld}
+use Rattle.trees.specs.Samples.{raised}
+use Rattle.trees.specs.Trees.{under}
+use Rattle.boxes.specs.Views.{entries, node_at, counts_at}
+use Rattle.field.proofs.Upheld.{raised_from, Recounted, rules_seen, few_seen, written, rules_upheld, admit_upheld}
 use Rattle.field.proofs.state.Field.admit.Goals as goal
+use Rattle.field.proofs.state.Field.admit.Goals.{After-recount}
 
-pub recount-requires : goal.recount-requires
-recount-requires c =
+pub recount-requires-clause-rules : goal.recount-requires-clause-rules
+recount-requires-clause-rules c = let f = c.args.self.now in rules_seen f.nodes _ c.as_mut_slice-nodes.ensures.value f.rules_hold
+
+pub recount-requires-clause-changes : goal.recount-requires-clause-changes
+recount-requires-clause-changes c =
     let f = c.args.self.now in
     let t = table f.slots in
     let did = admitted_says t _ c.args.slot c.args.fibre c.args.values.now c.in_ok-admit.ensures in
-    record {
-      rules = rules_from_lawful _ _ f.rules_hold;
-      room = omega (arith, f.len_fits);
-      coded = did.1;
-      fits = λ x l. right_few f.len (node_at f.nodes) (counts_at f.nodes) t (right_says _ _ _ _ f.counts_hold) x c.args.fibre l did.1;
-    }
+    let few = few_seen f.nodes c.as_mut_slice-nodes.result.now c.as_mut_slice-nodes.ensures.value t f.counts_hold c.args.fibre did.1 in
+    search rules
+
+-- one more on the path
+raises : (c : After-recount) → Recounted raised c.args.fibre (entries c.args.values.now) c.args.self.now.nodes (with_items c.args.self.now.nodes c.recount.new.nodes)
+raises c =
+    let f = c.args.self.now in
+    let v = entries c.args.values.now in
+    let os = c.as_mut_slice-nodes.result.now in
+    let ns = c.recount.new.nodes in
+    let up : (x : ℕ) → under (node_at os) v x ≡ true → counts_at ns x c.args.fibre ≡ counts_at os x c.args.fibre + 1 = λ x u. let h = c.recount.ensures.changed x u in search rules in
+    written f.nodes os c.as_mut_slice-nodes.ensures.value raised c.args.fibre v ns c.recount.auto.nodes c.recount.ensures.shape (raised_from os ns c.args.fibre v c.recount.ensures.kept up)
 
 pub invariant_of-self-2 : goal.invariant_of-self-2
 invariant_of-self-2 c =
     let f = c.args.self.now in
     let t = table f.slots in
     let did = admitted_says t _ c.args.slot c.args.fibre c.args.values.now c.in_ok-admit.ensures in
-    let shape = c.recount.ensures.shape in
+    let h = raises (goal.at.invariant_of-self-2 c).After-recount in
     record {
-      len_fits = f.len_fits;
-      rules_hold = rules_upheld f.len f.nodes c.recount.new.nodes shape f.rules_hold;
-      counts_hold = admit_upheld f.len f.nodes c.recount.new.nodes shape t _ c.args.slot f.counts_hold did.0 (length_table f.slots) c.args.fibre c.args.values.now did.2 did.3 c.recount.ensures.counts;
+      len_fits = omega (arith, h.size, f.len_fits);
+      rules_hold = rules_upheld raised _ _ f.nodes _ h f.rules_hold;
+      counts_hold = admit_upheld f.nodes _ t _ c.args.slot f.counts_hold did.0 (length_table f.slots) c.args.fibre c.args.values.now did.2 did.3 h;
     }
+
+pub returns-clause-tree : goal.returns-clause-tree
+returns-clause-tree c = let h = raises (goal.at.returns-clause-tree c).After-recount in record { size = h.size; shape = h.shape; counts = λ x f l. h.counts x f }

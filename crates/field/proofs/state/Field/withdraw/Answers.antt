@@ -1,38 +1,46 @@
-use Rattle.std.proofs.Common.{◌≡◌, ℕ, List, sym, ap, ◌∙◌, arith}
+use Rattle.std.proofs.Common.{◌≡◌, ℕ, ◌-◌, true, sym, ◌∙◌, subst, arith, rules}
+use Rattle.arrayvec.specs.ArrayVec.{with_items}
 use Rattle.samples.specs.Slots.{table, point, fibre_at, values_at}
 use Rattle.samples.proofs.Tabled.{withdrawn_says, length_table, fibre_some, values_some}
 use Rattle.trees.specs.Samples.{lowered}
-use Rattle.trees.proofs.Lawfully.{rules_from_lawful, right_says}
+use Rattle.trees.specs.Trees.{under}
 use Rattle.boxes.specs.Views.{entries, node_at, counts_at}
-use Rattle.field.proofs.Refreshed.{right_few}
-use Rattle.field.proofs.Upheld.{rules_upheld, withdraw_upheld}
+use Rattle.field.proofs.Upheld.{lowered_from, Recounted, rules_seen, written, rules_upheld, withdraw_upheld}
 use Rattle.field.proofs.state.Field.withdraw.Goals as goal
+use Rattle.field.proofs.state.Field.withdraw.Goals.{After-recount}
 
-pub recount-requires : goal.recount-requires
-recount-requires c =
+pub recount-requires-clause-rules : goal.recount-requires-clause-rules
+recount-requires-clause-rules c = let f = c.args.self.now in rules_seen f.nodes _ c.as_mut_slice-nodes.ensures.value f.rules_hold
+
+-- one less on the path
+lowers : (c : After-recount) → Recounted lowered (fibre_at (table c.args.self.now.slots) c.args.slot) (entries (values_at (table c.args.self.now.slots) c.args.slot)) c.args.self.now.nodes (with_items c.args.self.now.nodes c.recount.new.nodes)
+lowers c =
     let f = c.args.self.now in
-    record {
-      rules = rules_from_lawful _ _ f.rules_hold;
-      room = omega (arith, f.len_fits);
-      coded = c.fibre.ensures.coded;
-      fits = λ x l. right_few f.len (node_at f.nodes) (counts_at f.nodes) (table f.slots) (right_says _ _ _ _ f.counts_hold) x c.fibre.result l c.fibre.ensures.coded;
-    }
+    let t = table f.slots in
+    let z = c.args.slot in
+    let p = point c.in-Some.sample in
+    let got = c.in-Some.ensures in
+    let fibre : c.fibre.result ≡ fibre_at t z = c.fibre.ensures.value ∙ sym (fibre_some t z p got) in
+    let values : c.values.result.now ≡ values_at t z = c.values.ensures ∙ sym (values_some t z p got) in
+    let os = c.as_mut_slice-nodes.result.now in
+    let ns = c.recount.new.nodes in
+    let v = entries c.values.result.now in
+    let down : (x : ℕ) → under (node_at os) v x ≡ true → counts_at ns x c.fibre.result ≡ counts_at os x c.fibre.result - 1 = λ x u. let h = c.recount.ensures.changed x u in search rules in
+    let h = written f.nodes os c.as_mut_slice-nodes.ensures.value lowered c.fibre.result v ns c.recount.auto.nodes c.recount.ensures.shape (lowered_from os ns c.fibre.result v c.recount.ensures.kept down) in
+    subst (λ g. Recounted lowered g (entries (values_at t z)) f.nodes (with_items f.nodes ns)) fibre
+    (subst (λ vs. Recounted lowered c.fibre.result (entries vs) f.nodes (with_items f.nodes ns)) values h)
 
 pub invariant_of-self-in-Some : goal.invariant_of-self-in-Some
 invariant_of-self-in-Some c =
     let f = c.args.self.now in
     let t = table f.slots in
-    let z = c.args.slot in
-    let did = withdrawn_says t _ z c.in_ok-withdraw.ensures in
-    let shape = c.recount.ensures.shape in
-    let p = point c.in-Some.sample in
-    let got = c.in-Some.ensures in
-    let fibre : c.fibre.result ≡ fibre_at t z = c.fibre.ensures.value ∙ sym (fibre_some t z p got) in
-    let values : c.values.result.now ≡ values_at t z = c.values.ensures ∙ sym (values_some t z p got) in
-    let low : ℕ → ℕ → ℕ → List ℕ → ℕ = λ x g n vs. lowered (node_at f.nodes) (counts_at f.nodes) n (entries vs) x g in
+    let did = withdrawn_says t _ c.args.slot c.in_ok-withdraw.ensures in
+    let h = lowers (goal.at.invariant_of-self-in-Some c).After-recount in
     record {
-      len_fits = f.len_fits;
-      rules_hold = rules_upheld f.len f.nodes c.recount.new.nodes shape f.rules_hold;
-      counts_hold = withdraw_upheld f.len f.nodes c.recount.new.nodes shape t _ z f.counts_hold did.0 (length_table f.slots) did.1 did.2
-          (λ x g l. c.recount.ensures.counts x g l ∙ ap (λ n. low x g n c.values.result.now) fibre ∙ ap (low x g (fibre_at t z)) values);
+      len_fits = omega (arith, h.size, f.len_fits);
+      rules_hold = rules_upheld lowered _ _ f.nodes _ h f.rules_hold;
+      counts_hold = withdraw_upheld f.nodes _ t _ c.args.slot f.counts_hold did.0 (length_table f.slots) did.1 did.2 h;
     }
+
+pub returns-in-Some-clause-tree : goal.returns-in-Some-clause-tree
+returns-in-Some-clause-tree c = let h = lowers (goal.at.returns-in-Some-clause-tree c).After-recount in record { size = h.size; shape = h.shape; counts = λ x f l. h.counts x f }

@@ -1,0 +1,6 @@
+use Rattle.fieldfile.specs.Cursors.{Adds}
+use Rattle.fieldfile.specs.Format.{nodes_bytes}
+use Rattle.fieldfile.proofs.cursor.Cursor.put_nodes.Given as goal
+
+abbrev pub invariant-loop-node : goal.invariant-loop-node
+invariant-loop-node l = Adds l.initial.self l.self (nodes_bytes l.field l.node-index)
