@@ -1,7 +1,7 @@
 -- Every sample held in the slots is in range, so that the box of all values has them all. Assumes nothing.
-use Rattle.std.proofs.Common.{◌≡◌, ℕ, zero, suc, ◌<◌, true, List, [], ◌∷◌, map, get_or, is_some, Some, None, Option, MatchOption, unwrap_or, Bool, false, cond, ◌+◌, ◌++◌, Bor, sym, ap, ◌∙◌, arith}
+use Rattle.std.proofs.Common.{◌≡◌, ℕ, zero, suc, ◌<◌, ◌≤◌, true, List, [], ◌∷◌, map, get_or, is_some, Some, None, Option, MatchOption, unwrap_or, Bool, false, ◌+◌, ◌++◌, Bor, sym, ap, ◌∙◌, subst, ⊎_elim, add-one, arith}
 use Rattle.std.specs.Option.{option_map}
-use Rattle.std.proofs.lemmas.Bool.{false≢true}
+use Rattle.std.proofs.lemmas.Bool.{false≢true, cases_eq}
 use Rattle.boxes.specs.Views.{entries}
 use Rattle.samples.specs.Ranges.{below}
 use Rattle.samples.specs.Slots.{Point, Table, point, table, at, held}
@@ -55,8 +55,16 @@ lodged_by t s k (Some x) b P e h q =
     let z = ap (λ (l : List ℕ). covers k (entries l)) v in
     grind arith
 
--- the slots gathered so far, and one more
-pub gathered : (xs : Slots) (s : ℕ) (r : List ℕ) (o : Option (Bor Sample)) → s < 256 → option_map (λ x. point x.now) o ≡ at (table xs) s → Holds (lodged (held_in xs) everything) s r
-    → Holds (lodged (held_in xs) everything) (s + 1) (cond (is_some o) (r ++ s ∷ []) r)
-gathered xs s r None l e h = holds_skip (lodged (held_in xs) everything) s r (lodged_everything xs s l ∙ sym (ap is_some e)) h
-gathered xs s r (Some x) l e h = holds_push (lodged (held_in xs) everything) s r (lodged_everything xs s l ∙ sym (ap is_some e)) h
+-- slots that hold nothing are not gathered, and one that holds a sample is
+pub gathered_skips : (xs : Slots) (s i : ℕ) (r : List ℕ) → s ≤ i → i ≤ 256 → ((k : ℕ) → s ≤ k → k < i → held (table xs) k ≡ false) → Holds (lodged (held_in xs) everything) s r → Holds (lodged (held_in xs) everything) i r
+gathered_skips xs s zero r le lim none h = let e : s ≡ zero = omega arith in subst (λ n. Holds (lodged (held_in xs) everything) n r) e h
+gathered_skips xs s (suc i) r le lim none h =
+    ⊎_elim (λ (e : s ≡ suc i). subst (λ n. Holds (lodged (held_in xs) everything) n r) e h)
+    (λ ne.
+    let before = gathered_skips xs s i r (omega arith) (omega arith) (λ k a b. none k a (omega arith)) h in
+    let out = lodged_everything xs i (omega arith) ∙ none i (omega arith) (omega arith) in
+    subst (λ n. Holds (lodged (held_in xs) everything) n r) (add-one i) (holds_skip (lodged (held_in xs) everything) i r out before))
+    (cases_eq s (suc i))
+
+pub gathered_push : (xs : Slots) (i : ℕ) (r : List ℕ) → i < 256 → held (table xs) i ≡ true → Holds (lodged (held_in xs) everything) i r → Holds (lodged (held_in xs) everything) (i + 1) (r ++ i ∷ [])
+gathered_push xs i r l full h = holds_push (lodged (held_in xs) everything) i r (lodged_everything xs i l ∙ full) h

@@ -4,11 +4,9 @@ ghost use Rattle.boxes.specs.declared.node.Kind.TheVariants.{Leaf};
 ghost use Rattle.boxes.specs.Views.{box_of};
 ghost use Rattle.trees.specs.Drawing.{both, core, few};
 ghost use Rattle.drawing.specs.Builds.{over, nodes_of, Ready, Follows, Draws};
-ghost use Rattle.drawing.specs.Held.{held_in};
 ghost use Rattle.drawing.specs.Runs.{Run};
 
 use super::MAX_NODES;
-use super::runs::{count_in, part, tally};
 use arrayvec::ArrayVec;
 use boxes::{Bounds, Kind, MAX_DEPTH, Node};
 use ranking::CODES;
@@ -32,11 +30,11 @@ impl Builder<'_> {
         ensures { Draws self.old k self.new }
     {
         if run.len() <= LEAF_SAMPLES || k.depth() >= MAX_DEPTH {
-            let counts = tally(self.slots, run);
+            let counts = self.tally(run);
             self.push(k, counts);
             return;
         }
-        let inner = core_of(self.slots, run, k);
+        let inner = self.core_of(run, k);
         if inner.depth() > k.depth() {
             self.build_shrink(run, k, inner);
         } else {
@@ -55,8 +53,8 @@ impl Builder<'_> {
         let Some((lower, upper)) = k.halves() else {
             unreachable()
         };
-        let counts = tally(self.slots, run);
-        let below = part(self.slots, run, &lower);
+        let counts = self.tally(run);
+        let below = self.part(run, &lower);
         let (front, back) = run.split_at_mut(below);
         let at = self.push(k, counts);
         self.build_box(front, lower);
@@ -77,7 +75,7 @@ impl Builder<'_> {
         requires inner { box_of inner ≡ core (over self.old) (box_of k) }
         ensures { Draws self.old k self.new }
     {
-        let counts = tally(self.slots, run);
+        let counts = self.tally(run);
         let at = self.push(k, counts);
         self.build_box(run, inner);
         let rim = self.push(k, [0; CODES]);
@@ -102,20 +100,20 @@ impl Builder<'_> {
         });
         number
     }
-}
 
-// The deepest box that holds all the samples of a run: down for as long as one half has them all.
-fn core_of(slots: &Slots, run: &[u8], k: Bounds) -> Bounds
-    requires { Run (held_in slots.now) (box_of k) run.now }
-    ensures { box_of result ≡ core (held_in slots.now) (box_of k) }
-{
-    let mut deepest = k;
-    while let Some((low, high)) = deepest.halves() {
-        match count_in(slots, run, &low) {
-            0 => deepest = high,
-            all if all == run.len() => deepest = low,
-            _ => break,
+    // The deepest box that holds all the samples of a run: down for as long as one half has them all.
+    fn core_of(&self, run: &[u8], k: Bounds) -> Bounds
+        requires { Run (over self.now) (box_of k) run.now }
+        ensures { box_of result ≡ core (over self.now) (box_of k) }
+    {
+        let mut deepest = k;
+        while let Some((low, high)) = deepest.halves() {
+            match self.count_in(run, &low) {
+                0 => deepest = high,
+                all if all == run.len() => deepest = low,
+                _ => break,
+            }
         }
+        deepest
     }
-    deepest
 }

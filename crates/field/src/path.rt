@@ -7,7 +7,7 @@ ghost use Rattle.field.specs.Paths.{Goes};
 use boxes::Node;
 use measure::BANDS;
 
-// The leaf in which the values belong.
+// The leaf in which the values belong. A loop, since of the path's nodes only the last is asked for.
 pub(crate) fn leaf_of(nodes: &[Node], values: &[u16; BANDS]) -> usize
     requires rules { Rules (length nodes.now) (node_at nodes.now) }
     ensures { result ≡ reached (node_at nodes.now) (entries values.now) (length nodes.now - 1) }

@@ -1,7 +1,7 @@
 // A buffer that is written from its front: numbers with the low byte first.
 ghost use Rattle.std.specs.Prelude.{◌≡◌, ◌≤◌, length};
 ghost use Rattle.boxes.specs.Views.{entries};
-ghost use Rattle.fieldfile.specs.Bytes.{row};
+ghost use Rattle.fieldfile.specs.Bytes.{le2, row};
 
 // How many numbers stand in a row: the values of bands, or the counts of fibres.
 pub(crate) const ROW: usize = 8;
@@ -36,13 +36,21 @@ impl<'a> Cursor<'a> {
         self.at = end;
     }
 
+    // Writes a number in two bytes.
+    pub(crate) fn put_u16(&mut self, number: u16)
+        requires { 2 ≤ left self.old }
+        ensures { Adds self.old self.new (le2 number) }
+    {
+        self.put(&number.to_le_bytes());
+    }
+
     // Writes eight numbers, in two bytes each.
     pub(crate) fn put_row(&mut self, numbers: &[u16; ROW])
         requires { 16 ≤ left self.old }
         ensures { Adds self.old self.new (row (entries numbers.now)) }
     {
         for number in numbers {
-            self.put(&number.to_le_bytes());
+            self.put_u16(*number);
         }
     }
 }

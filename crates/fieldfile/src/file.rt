@@ -50,12 +50,9 @@ impl Cursor<'_> {
         requires { 20 * samples (holds field.now) ≤ left self.old }
         ensures { Adds self.old self.new (samples_bytes field.now 256) }
     {
-        // By the number of the slot, which stands in the record.
-        for slot in 0..SLOTS as u16 {
-            if let Some(sample) = field.sample(slot) {
-                let leaf = field.leaf_of(sample.values());
-                self.put_sample(slot as u8, leaf as u16, &sample);
-            }
+        for (slot, sample) in field.slots().iter() {
+            let leaf = field.leaf_of(sample.values());
+            self.put_sample(slot, leaf as u16, sample);
         }
     }
 

@@ -26,7 +26,7 @@ impl Cursor<'_> {
         ensures { Adds self.old self.new (sample_record slot sample.now.fibre leaf (entries sample.now.reading.values)) }
     {
         self.put(&[slot, sample.fibre()]);
-        self.put(&leaf.to_le_bytes());
+        self.put_u16(leaf);
         self.put_row(sample.values());
     }
 
@@ -37,8 +37,8 @@ impl Cursor<'_> {
     {
         let (first, second) = node.kind.children().unwrap_or((0, 0));
         self.put(&[kind_byte(node.kind), node.bounds.depth()]);
-        self.put(&first.to_le_bytes());
-        self.put(&second.to_le_bytes());
+        self.put_u16(first);
+        self.put_u16(second);
         self.put_row(node.bounds.corner());
         self.put_row(&node.counts);
     }
@@ -48,15 +48,15 @@ impl Cursor<'_> {
         requires { 14 ≤ left self.old }
         ensures { Adds self.old self.new (trailer_bytes outline.samples outline.nodes) }
     {
-        self.put(&outline.samples.to_le_bytes());
-        self.put(&outline.nodes.to_le_bytes());
+        self.put_u16(outline.samples);
+        self.put_u16(outline.nodes);
         self.put(&outline.back_to_nodes().to_le_bytes());
         self.put(&outline.back_to_samples().to_le_bytes());
         self.put(&MARK);
     }
 }
 
-// The byte of a kind.
+// The byte by which the format tells a kind.
 fn kind_byte(kind: Kind) -> u8
     ensures { result ≡ kind_code (kind_of kind) }
 {

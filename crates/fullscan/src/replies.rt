@@ -11,7 +11,7 @@ use script::{Command, Query, Unreadable};
 // The least number that a ratio has.
 const MIN_DEN: u16 = 1;
 
-// Carries out a line on the slots, and says what is printed for it.
+// Carries out a line on the slots, and says what is printed for it. The slots are lent to be changed, the measure to weigh.
 pub fn reply<M: Measure>(
     measure: &M,
     slots: &mut Slots,

@@ -120,6 +120,7 @@ impl Additive for Square {
     }
 }
 
+// It weighs as Block does, which is one call of std, and is said twice for that.
 impl Measure for Peak {
     ghost weighed = { λ _ _ g. g };
 

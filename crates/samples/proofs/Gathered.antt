@@ -1,5 +1,5 @@
 -- A heap that takes in the candidate of each slot with a sample, slot by slot. Assumes nothing.
-use Rattle.std.proofs.Common.{◌≡◌, ℕ, zero, suc, ◌+◌, ◌-◌, ◌<◌, ◌≤◌, Bool, true, false, ◌&&◌, List, [], ◌∷◌, ◌++◌, length, Ok, Err, sum_by, Result, sym, refl, ap, ◌∙◌, subst, arith, length-append}
+use Rattle.std.proofs.Common.{◌≡◌, ℕ, ◌+◌, ◌<◌, ◌≤◌, Bool, true, false, ◌&&◌, List, [], ◌∷◌, ◌++◌, length, Ok, Err, sum_by, Result, sym, ap, ◌∙◌, subst, arith, length-append}
 use Rattle.std.specs.List.Sorted.{IsPermutation}
 use Rattle.std.proofs.lemmas.List.Sums.{sum_by_push}
 use Rattle.std.proofs.lemmas.List.Sorted.{sum_by-IsPermutation, length_permutation}
@@ -43,18 +43,6 @@ module _ (h : Heap Candidate) (w : ℕ → ℕ) (p : ℕ → Bool) where
     wide = g.wide;
     few = omega (arith, g.few);
   }
-
-  -- nor do the slots after it, up to n
-  skips : (i d : ℕ) → Gathered h w p i → ((s : ℕ) → i ≤ s → s < i + d → p s ≡ false) → Gathered h w p (i + d)
-  skips i zero g none = gathered_at refl (omega arith) g
-  skips i (suc d) g none =
-      let more = gathered_skip (i + d) (skips i d g (λ s l m. none s l (omega arith))) (none (i + d) (omega arith) (omega arith)) in
-      gathered_at refl (omega arith) more
-
-  pub gathered_skips : (i n : ℕ) → i ≤ n → Gathered h w p i → ((s : ℕ) → i ≤ s → s < n → p s ≡ false) → Gathered h w p n
-  gathered_skips i n l g none =
-      let end : i + (n - i) ≡ n = omega arith in
-      gathered_at refl end (skips i (n - i) g (λ s a b. none s a (omega arith)))
 
   -- the candidate of slot i was pushed
   pub gathered_push : (k : Heap Candidate) (r : Result (Unit {0}) Candidate) (i : ℕ) → i < 256 → Gathered h w p i → p i ≡ true → Pushed (content h) (room h) (candidate w i) (content k) r → room k ≡ room h → Heaped (ahead by_weight) (content k) → Gathered k w p (i + 1)

@@ -1,9 +1,10 @@
 -- What the slots hold and the table of it: read at one slot, and after one slot is written. Assumes nothing.
-use Rattle.std.proofs.Common.{◌≡◌, ℕ, zero, suc, ◌<◌, ◌≤◌, Bool, true, false, cond, ltb, List, [], ◌∷◌, map, length, get_or, take, set, count_by, is_some, is_ok, Some, None, Ok, Err, Option, Result, unwrap_or, sym, refl, ap, ◌∙◌, ⊎_elim, add-one, arith}
+use Rattle.std.proofs.Common.{◌≡◌, ℕ, zero, suc, ◌<◌, ◌≤◌, Bool, true, false, cond, ltb, List, [], map, length, get_or, take, set, sum_by, is_some, is_ok, Some, None, Ok, Err, Option, Result, unwrap_or, sym, refl, ap, ◌∙◌, add-one, arith}
 use Rattle.std.specs.Option.{option_map}
-use Rattle.std.proofs.lemmas.List.{get_or_default, length-map, take_all}
-use Rattle.std.proofs.lemmas.List.Sums.{count_by_more_yes, count_by_more_no}
-use Rattle.std.proofs.lemmas.Bool.{true≢false, cases_Bool}
+use Rattle.std.proofs.lemmas.List.{get_or-map, map-set, length-map, take_all, take_more}
+use Rattle.std.proofs.lemmas.List.Sums.{sum_by_push}
+use mir.Val.{bool_byte}
+use Rattle.std.proofs.lemmas.Bool.{true≢false}
 use Rattle.ranking.specs.Counts.{bit, count}
 use Rattle.ranking.proofs.Counted.{count_ext}
 use Rattle.samples.specs.Verdict.{samples}
@@ -13,17 +14,6 @@ use Rattle.samples.specs.declared.refusal.Refusal.{Refusal}
 use Rattle.samples.specs.declared.refusal.Refusal.TheVariants.{OutOfRange, SlotFull, SlotEmpty}
 use Rattle.samples.specs.declared.sample.Sample.{Sample}
 use Rattle.samples.specs.declared.slots.Slots.{Slots}
-
-module _ {X Y : Type 0} (f : X → Y) where
-  get_d_map : (xs : List X) (i : ℕ) (d : X) → get_or (map f xs) i (f d) ≡ f (get_or xs i d)
-  get_d_map [] i d = refl
-  get_d_map (x ∷ xs) zero d = refl
-  get_d_map (x ∷ xs) (suc i) d = get_d_map xs i d
-
-  set_map : (xs : List X) (i : ℕ) (x : X) → set (map f xs) i (f x) ≡ map f (set xs i x)
-  set_map [] i x = refl
-  set_map (y ∷ xs) zero x = refl
-  set_map (y ∷ xs) (suc i) x = ap (λ l. f y ∷ l) (set_map xs i x)
 
 pub is_some_mapped : {X Y : Type 0} (f : X → Y) (o : Option X) → is_some (option_map f o) ≡ is_some o
 is_some_mapped f None = refl
@@ -35,31 +25,36 @@ length_table xs = length-map xs.cells (option_map point) ∙ xs.whole
 
 -- the slot s, which the code read as o
 pub at_table : (xs : Slots) (s : ℕ) (o : Option Sample) → s < length xs.cells → at (table xs) s ≡ option_map point (get_or xs.cells s o)
-at_table xs s o l = get_d_map (option_map point) xs.cells s None ∙ ap (option_map point) (get_or_default xs.cells s None o l)
+at_table xs s o l = get_or-map (option_map point) xs.cells s o None l
 
 pub held_table : (xs : Slots) (s : ℕ) (o : Option Sample) → s < length xs.cells → held (table xs) s ≡ is_some (get_or xs.cells s o)
 held_table xs s o l = ap is_some (at_table xs s o l) ∙ is_some_mapped point (get_or xs.cells s o)
 
 -- the slots that hold a sample are the cells that do
-counted : {X : Type 0} (f : X → Bool) (xs : List X) (d : X) (n : ℕ) → n ≤ length xs → count (λ s. f (get_or xs s d)) n ≡ count_by f (take n xs)
+counted : {X : Type 0} (f : X → Bool) (xs : List X) (d : X) (n : ℕ) → n ≤ length xs → count (λ s. f (get_or xs s d)) n ≡ sum_by (λ x. bool_byte (f x)) (take n xs)
 unfolding count
 counted f xs d zero l = refl
 counted f xs d (suc n) l =
     let i = counted f xs d n (omega arith) in
-    let a = ap (λ m. count_by f (take m xs)) (add-one n) in
-    ⊎_elim (λ e. let m = count_by_more_yes f xs n d (omega arith) e in let b = ap bit e in omega arith)
-    (λ e. let m = count_by_more_no f xs n d (omega arith) e in let b = ap bit e in omega arith)
-    (cases_Bool (f (get_or xs n d)))
+    let a = ap (λ m. sum_by (λ x. bool_byte (f x)) (take m xs)) (add-one n) in
+    let b = ap (sum_by (λ x. bool_byte (f x))) (take_more xs n d (omega arith)) in
+    let c = sum_by_push (λ x. bool_byte (f x)) (take n xs) (get_or xs n d) in
+    let e = as_byte (f (get_or xs n d)) in
+    omega arith
+  where
+    as_byte : (b : Bool) → bit b ≡ bool_byte b
+    as_byte true = refl
+    as_byte false = refl
 
-pub samples_counted : (xs : Slots) → samples (table xs) ≡ count_by is_some xs.cells
+pub samples_counted : (xs : Slots) → samples (table xs) ≡ sum_by (λ o. bool_byte (is_some o)) xs.cells
 samples_counted xs =
     count_ext (held (table xs)) (λ s. is_some (get_or xs.cells s None)) 256 (λ s l. held_table xs s None (omega (arith, xs.whole)))
     ∙ counted is_some xs.cells None 256 (omega (arith, xs.whole))
-    ∙ ap (count_by is_some) (take_all 256 xs.cells (omega (arith, xs.whole)))
+    ∙ ap (sum_by (λ o. bool_byte (is_some o))) (take_all 256 xs.cells (omega (arith, xs.whole)))
 
 -- the table after slot s was written
 pub set_table : (xs : Slots) (s : ℕ) (o : Option Sample) → set (table xs) s (option_map point o) ≡ map (option_map point) (set xs.cells s o)
-set_table xs s o = set_map (option_map point) xs.cells s o
+set_table xs s o = sym (map-set (option_map point) xs.cells s o)
 
 -- a slot that was read as a sample
 module _ (t : Table) (s : ℕ) (x : Point) (e : Some x ≡ at t s) where

@@ -3,11 +3,12 @@
 --   sooner x y       the candidate x comes before y
 --   candidate w s    the candidate of slot s, by the weight of each slot
 --   Holds xs w p n   the list holds the candidate of each slot below n that passes p, and nothing else
-use Rattle.std.specs.Prelude.{◌≡◌, ℕ, Bool, true, false, cond, ◌&&◌, ◌||◌, ◌==◌, List, nat_lt, sum_by, refl}
+use Rattle.std.specs.Prelude.{◌≡◌, ℕ, Bool, true, false, cond, ◌&&◌, ◌||◌, ◌==◌, List, nat_lt, sum_by, ◌≢◌, refl}
 use Rattle.std.specs.Ordering.{is_lt, nat_cmp, on, ordering_then, then_cmp}
 use Rattle.std.specs.declared.cmp.Ordering.{Ordering}
 use Rattle.std.specs.declared.cmp.Ordering.TheVariants.{Less, Equal, Greater}
-use Rattle.heap.specs.Order.{ahead}
+use Rattle.std.proofs.Common.{rules}
+use Rattle.heap.specs.Order.{One, ahead}
 use Rattle.ranking.specs.Counts.{bit, count}
 use Rattle.ranking.specs.Ranks.{lower}
 use Rattle.samples.specs.declared.candidate.Candidate.{Candidate}
@@ -28,6 +29,17 @@ first_or_then false true false false = refl
 -- ahead in that order is the lower weight, and of equal weights the lower slot
 pub ahead_is_sooner : (x y : Candidate) → ahead by_weight x y ≡ sooner x y
 ahead_is_sooner x y = first_or_then (nat_lt x.weight y.weight) (x.weight == y.weight) (nat_lt x.slot y.slot) (x.slot == y.slot)
+
+-- of two candidates with another weight or slot exactly one comes first, of two with the same neither, and coming
+-- first carries over
+pub one : (x y : Candidate) → ◌≢◌ {A = ℕ × ℕ} (x.weight, x.slot) (y.weight, y.slot) → One (sooner x y) (sooner y x)
+one x y = search rules
+
+pub neither : (x y : Candidate) → ◌≡◌ {A = ℕ × ℕ} (x.weight, x.slot) (y.weight, y.slot) → sooner x y ≡ false
+neither x y = search rules
+
+pub carries : (x y z : Candidate) → sooner x y ≡ true → sooner y z ≡ true → sooner x z ≡ true
+carries x y z = search rules
 
 abbrev pub candidate : (ℕ → ℕ) → ℕ → Candidate
 candidate w s = record { weight = w s; slot = s }

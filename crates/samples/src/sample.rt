@@ -18,6 +18,7 @@ pub struct Reading {
     ghost within: { below 1024 values ≡ true },
 }
 
+// The fibre is its code: files, scripts and answers write it as a number, and counts are indexed by it.
 #[derive(Clone, Copy)]
 pub struct Sample {
     fibre: u8,

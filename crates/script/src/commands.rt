@@ -19,7 +19,7 @@ pub fn parse_measure(line: &[u8]) -> Result<MeasureKind, Unreadable>
     }
 }
 
-// What a later line says.
+// What a later line says: one case for each letter, which reads its own words.
 pub fn parse_command(line: &[u8]) -> Result<Command, Unreadable>
     ensures { result ≡ command_of line.now }
 {

@@ -31,10 +31,13 @@ impl Slots {
     pub fn count(&self) -> u16
         ensures { result ≡ samples (table self.now) }
     {
-        self.cells.iter().filter(|cell| cell.is_some()).count() as u16
+        self.cells
+            .iter()
+            .map(|cell| u16::from(cell.is_some()))
+            .sum()
     }
 
-    // Puts a sample into an empty slot.
+    // Puts a sample into an empty slot. It is told by its numbers, which may be out of range, as a script names them.
     pub fn admit(&mut self, slot: u16, fibre: u16, values: &[u16; BANDS]) -> Result<(), Refusal>
         ensures { (table self.new, result) ≡ admit_rule (table self.old) slot fibre values.now }
     {

@@ -7,7 +7,7 @@ ghost use Rattle.samples.specs.Slots.{table, point, NextHeld};
 use super::Slots;
 use crate::sample::Sample;
 
-// The samples from one slot on.
+// The samples from one slot on. The slot is counted here, in the iterator itself, so that nobody else counts it.
 #[derive(Drop)]
 pub struct Held<'a> {
     slots: &'a Slots,

@@ -1,7 +1,7 @@
 use Rattle.std.proofs.Common.{◌≡◌, ◌∙◌, unwrap_or, ap, arith}
 use Rattle.boxes.specs.Views.{entries, links_of}
 use Rattle.fieldfile.specs.Format.{node_record}
-use Rattle.fieldfile.proofs.Adding.{adds_le2, adds_then}
+use Rattle.fieldfile.proofs.Adding.{adds_then}
 use Rattle.fieldfile.proofs.Putting.{length_row}
 use Rattle.fieldfile.proofs.cursor.Cursor.put_node.Goals as goal
 
@@ -12,7 +12,5 @@ pub returns : goal.returns
 unfolding node_record
 returns c =
     let links : c.unwrap_or-first.result ≡ links_of c.args.node.now.kind = c.unwrap_or-first.ensures ∙ ap (λ o. unwrap_or o (0, 0)) c.children.ensures in
-    let first = adds_le2 c.unwrap_or-first.result.0 (omega arith) c.to_le_bytes.ensures c.put-2.ensures in
-    let second = adds_le2 c.unwrap_or-first.result.1 (omega arith) c.to_le_bytes-2.ensures c.put-3.ensures in
-    let all = adds_then c.put.ensures (adds_then first (adds_then second (adds_then c.put_row.ensures c.put_row-2.ensures))) in
+    let all = adds_then c.put.ensures (adds_then c.put_u16.ensures (adds_then c.put_u16-2.ensures (adds_then c.put_row.ensures c.put_row-2.ensures))) in
     rw (c.kind_byte.ensures, c.depth.ensures.value, links, c.corner.ensures) at all

@@ -1,20 +1,23 @@
-use Rattle.std.proofs.Common.{◌≡◌, ◌+◌, ◌-◌, false, cond, [], is_some, Some, sym, ap, ◌∙◌, arith}
-use Rattle.samples.specs.Slots.{at, point, held}
+use Rattle.std.proofs.Common.{◌≡◌, ◌-◌, cond, [], Some, None, sym, ap, ◌∙◌, subst, arith}
+use Rattle.samples.specs.Slots.{table, point, held, NextHeld}
+use Rattle.samples.specs.declared.slots.Slots.{Slots}
 use Rattle.samples.proofs.Tabled.{held_some, fibre_some, values_some}
 use Rattle.boxes.specs.Views.{entries}
 use Rattle.trees.specs.Trees.{reached}
 use Rattle.trees.proofs.Pathed.{reached_le}
 use Rattle.field.specs.Fields.{holds, tree, node_count}
-use Rattle.fieldfile.specs.Cursors.{Adds}
 use Rattle.fieldfile.specs.Format.{leaf_number, sample_record, sample_bytes, samples_bytes}
-use Rattle.fieldfile.specs.declared.cursor.Cursor.{Cursor}
-use Rattle.fieldfile.proofs.Adding.{adds_as, adds_none, adds_no_pieces, adds_piece}
+use Rattle.fieldfile.proofs.Adding.{adds_as, adds_no_pieces, adds_piece, nothing_between}
 use Rattle.fieldfile.proofs.Lengths.{count_before, length_samples}
 use Rattle.fieldfile.proofs.cursor.Cursor.put_samples.Goals as goal
-use Rattle.fieldfile.proofs.cursor.Cursor.put_samples.Goals.{in-Some, in_default}
 
 pub loop-slot-init : goal.loop-slot-init
-loop-slot-init c = adds_no_pieces _ _
+loop-slot-init c =
+    let it = c.into_iter-slot-iterator in
+    let same = it.ensures.into_iter_gives in
+    let from : it.result.from ≡ 0 = ap (λ s. s.from) same ∙ c.iter-slot-items.ensures.from in
+    let slots = ap (λ s. s.slots.now) same ∙ c.iter-slot-items.ensures.slots ∙ c.slots.ensures in
+    (tt, tt, slots, omega arith, adds_as (adds_no_pieces _ _) (ap (samples_bytes c.args.field.now) (sym from)))
 
 pub overflow_cast-leaf : goal.overflow_cast-leaf
 overflow_cast-leaf c =
@@ -24,34 +27,46 @@ overflow_cast-leaf c =
 
 pub put_sample-requires : goal.put_sample-requires
 put_sample-requires c =
-    let t = holds c.args.field.now in
-    let s = c.loop-slot.slot in
-    let full = held_some t s (point c.in-Some.sample) c.in-Some.ensures in
-    let few = count_before (held t) s 256 (omega arith) full in
-    let long = length_samples c.args.field.now s in
-    omega arith
+    let f = c.args.field.now in
+    let t = holds f in
+    let inv = c.loop-slot.invariant in
+    let s = c.loop-slot.slot-iterator.from in
+    let i = c.in-Some.slot in
+    let x = point c.in-Some.sample.now in
+    let next : NextHeld t s (Some (i, x)) c.next.new.self.from = subst (λ (xs : Slots). NextHeld (table xs) s (Some (i, x)) c.next.new.self.from) inv.2 c.in-Some.ensures.steps.0 in
+    let few = count_before (held t) i 256 next.1 (held_some t i x (sym next.3)) in
+    let upto = adds_as inv.4 (nothing_between f s i next.0 next.2) in
+    let long = length_samples f i in
+    omega (arith, upto.left)
 
+-- the slots that were passed over add nothing, and the next its record
 pub loop-slot-preserved : goal.loop-slot-preserved
 loop-slot-preserved c =
     let f = c.args.field.now in
     let t = holds f in
-    let s = c.loop-slot.slot in
-    let more : (b : Cursor) → Adds c.loop-slot.self b (cond (held t s) (sample_bytes f s) []) → c.match-sample.self ≡ b → Adds c.args.self.now c.match-sample.self (samples_bytes f (s + 1)) =
-    λ b adds e. rw e (adds_piece _ s c.loop-slot.invariant adds)
+    let inv = c.loop-slot.invariant in
+    let s = c.loop-slot.slot-iterator.from in
+    let i = c.in-Some.slot in
+    let n = c.next.new.self.from in
+    let x = point c.in-Some.sample.now in
+    let next : NextHeld t s (Some (i, x)) n = subst (λ (xs : Slots). NextHeld (table xs) s (Some (i, x)) n) inv.2 c.in-Some.ensures.steps.0 in
+    let found = sym next.3 in
+    let full = held_some t i x found in
+    let fibre = fibre_some t i x found in
+    let values = values_some t i x found in
+    let leaf : c.leaf_of-leaf.result ≡ leaf_number f i =
+    c.leaf_of-leaf.ensures ∙ ap (λ v. reached (tree f) (entries v) (node_count f - 1)) (c.values.ensures ∙ sym values)
     in
-    elim c.match-sample.branch [
-      | in-Some w ↦
-          let x = point w.in-Some.sample in
-          let found : Some x ≡ at t s = w.in-Some.ensures in
-          let full = held_some t s x found in
-          let fibre = fibre_some t s x found in
-          let values = values_some t s x found in
-          let leaf : w.leaf_of-leaf.result ≡ leaf_number f s =
-          w.leaf_of-leaf.ensures ∙ ap (λ v. reached (tree f) (entries v) (node_count f - 1)) (w.values.ensures ∙ sym values)
-          in
-          let same : sample_record s x.fibre w.leaf_of-leaf.result (entries x.values) ≡ sample_bytes f s = λ i. sample_record s (sym fibre i) (leaf i) (entries (sym values i)) in
-          more _ (adds_as w.put_sample.ensures (same ∙ λ i. cond (sym full i) (sample_bytes f s) [])) w.self-is
-      | in_default w ↦
-          let empty : held t s ≡ false = ap is_some (sym w.in_default.ensures) in
-          more _ (adds_as (adds_none _) (λ i. cond (sym empty i) (sample_bytes f s) [])) w.self-is
-    ]
+    let same : sample_record i x.fibre c.leaf_of-leaf.result (entries x.values) ≡ sample_bytes f i = λ j. sample_record i (sym fibre j) (leaf j) (entries (sym values j)) in
+    let upto = adds_as inv.4 (nothing_between f s i next.0 next.2) in
+    let all = adds_piece (λ k. cond (held t k) (sample_bytes f k) []) i upto (adds_as c.put_sample.ensures (same ∙ λ j. cond (sym full j) (sample_bytes f i) [])) in
+    (tt, tt, ap (λ b. b.now) c.in-Some.ensures.steps.1 ∙ inv.2, omega (arith, next.1, next.4), adds_as all (ap (samples_bytes f) (sym next.4)))
+
+pub returns : goal.returns
+returns c =
+    let f = c.args.field.now in
+    let t = holds f in
+    let inv = c.loop-slot.invariant in
+    let s = c.loop-slot.slot-iterator.from in
+    let none : NextHeld t s None 256 = subst (λ (xs : Slots). NextHeld (table xs) s None 256) inv.2 c.in-None.ensures.steps.0 in
+    adds_as inv.4 (nothing_between f s 256 inv.3 none)

@@ -1,13 +1,7 @@
-use Rattle.std.proofs.Common.{◌≡◌, ◌≤◌}
 use Rattle.samples.specs.Questions.{weights}
 use Rattle.samples.specs.Slots.{table, held}
 use Rattle.samples.proofs.Gathered.{Gathered}
 use Rattle.samples.proofs.verdict.Question.weigh_all.Given as goal
 
 abbrev pub invariant-loop-slot : goal.invariant-loop-slot
-invariant-loop-slot g l =
-    (goal.iterator-loop-slot g).can_next l.slot-iterator
-    × (goal.iterator-loop-slot g).is_finite l.slot-iterator
-    × (l.slot-iterator.slots.now ≡ l.self.slots.now)
-    × (l.slot-iterator.from ≤ 256)
-    × Gathered l.heap (weights g.M.Measure.weighed g.M.Measure.joined l.self) (held (table l.self.slots.now)) l.slot-iterator.from
+invariant-loop-slot g l = Gathered l.heap (weights g.M.Measure.weighed g.M.Measure.joined l.self) (held (table l.self.slots.now)) l.slot

@@ -1,14 +1,14 @@
 use Rattle.std.proofs.Common.{sym, arith}
 use Rattle.boxes.specs.Views.{box_of}
 use Rattle.trees.specs.Drawing.{lodged}
-use Rattle.drawing.specs.Held.{held_in}
+use Rattle.drawing.specs.Builds.{over}
 use Rattle.drawing.proofs.Parting.{parting_skip, parting_swap, parting_all, parting_at}
-use Rattle.drawing.proofs.runs.part.Goals as goal
-use Rattle.drawing.proofs.runs.part.Goals.{then-is_lodged, else-is_lodged}
+use Rattle.drawing.proofs.build.Builder.part.Goals as goal
+use Rattle.drawing.proofs.build.Builder.part.Goals.{then-is_lodged, else-is_lodged}
 
 pub loop-i-preserved : goal.loop-i-preserved
 loop-i-preserved c =
-    let p = lodged (held_in c.args.slots.now) (box_of c.args.k.now) in
+    let p = lodged (over c.args.self.now) (box_of c.args.k.now) in
     let xs = c.args.run.now in
     let ys = c.loop-i.run in
     let m = c.loop-i.front in
@@ -22,5 +22,5 @@ loop-i-preserved c =
 
 pub returns : goal.returns
 returns c =
-    let p = lodged (held_in c.args.slots.now) (box_of c.args.k.now) in
+    let p = lodged (over c.args.self.now) (box_of c.args.k.now) in
     parting_all p c.args.run.now c.loop-i.run c.loop-i.front c.loop-i.i c.loop-i.invariant (omega arith)
