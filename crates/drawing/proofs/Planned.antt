@@ -1,17 +1,21 @@
 -- The plan of a box and its size, by what its run and its core tell. Assumes nothing.
-use Rattle.std.proofs.Common.{◌≡◌, ℕ, suc, ◌+◌, ◌<◌, ◌≤◌, true, false, List, length, get_or, sym, ap, ◌∙◌, subst, arith}
+use Rattle.std.proofs.Common.{◌≡◌, ℕ, suc, ◌+◌, ◌<◌, ◌≤◌, true, false, List, ◌++◌, length, Option, Some, IfSome, sym, ap, ◌∙◌, subst, arith}
+use Rattle.std.proofs.lemmas.Bool.{lt-ltb}
 use Rattle.ranking.proofs.Counted.{count_le}
-use Rattle.boxes.specs.Views.{Halved}
+use Rattle.boxes.specs.Views.{Halved, box_of}
+use Rattle.boxes.specs.declared.bounds.Bounds.{Bounds}
 use Rattle.trees.specs.Boxes.{Box}
-use Rattle.trees.specs.Drawing.{halve, focus, size, lodged, many, both, few, core, plan, of_fibre}
+use Rattle.trees.specs.Drawing.{halve, focus, size, lodged, many, both, few, core, plan}
 use Rattle.trees.specs.Samples.{Samples}
 use Rattle.trees.proofs.Drawn.{plan_halve, plan_focus, few_says, core_here, core_inside}
-use Rattle.drawing.specs.Runs.{Run, of_code}
-use Rattle.drawing.proofs.Lodging.{run_length, run_code, run_core}
+use Rattle.drawing.specs.Builds.{over, nodes_of, Ready}
+use Rattle.drawing.specs.Runs.{Run, Parted}
+use Rattle.drawing.specs.declared.build.Builder.{Builder}
+use Rattle.drawing.proofs.Lodging.{run_length, run_core, run_halves, halves_deeper}
 use Rattle.trees.proofs.Numbering.{size_pos}
 
 module _ (a : Samples) (k : Box) where
-  pub plan_pos : 0 < size (plan a k)
+  plan_pos : 0 < size (plan a k)
   plan_pos = size_pos (plan a k)
 
   pub few_deep : 80 ≤ k.depth → few a k ≡ true
@@ -34,11 +38,8 @@ module _ (a : Samples) (k : Box) where
     pub full_long : 4 < length xs → k.depth < 80 → few a k ≡ false
     full_long h d = not_few (length xs) (run_length a k xs r) h d
 
-    pub run_bound : length xs ≤ a.slots
+    run_bound : length xs ≤ a.slots
     run_bound = omega (arith, run_length a k xs r, count_le (lodged a k) a.slots)
-
-    pub run_tally : (vs cs : List ℕ) → vs ≡ cs → ((f : ℕ) → f < 8 → get_or cs f 0 ≡ of_code a xs f) → (f : ℕ) → f < 8 → get_or vs f 0 ≡ of_fibre a k f
-    run_tally vs cs e h f l = ap (λ (ns : List ℕ). get_or ns f 0) e ∙ (h f l ∙ run_code a k xs r f)
 
   -- what the core tells
   module _ (d : k.depth < 80) (i : Box) (e : i ≡ core a k) where
@@ -77,3 +78,31 @@ module _ (a : Samples) (k : Box) where
 
     pub inner_run : (i : Box) → i ≡ core a k → (xs : List ℕ) → Run a k xs → Run a i xs
     inner_run i p xs r = subst (λ (j : Box). Run a j xs) (sym p) (run_core a k xs r full_depth)
+
+-- a builder that is ready has a short run, and room for a node
+module _ (b : Builder) (k : Bounds) (xs : List ℕ) (r : Ready b k xs) where
+  pub ready_bound : length xs ≤ 256
+  ready_bound = run_bound (over b) (box_of k) xs r.run
+
+  pub ready_room : length (nodes_of b) < 1021
+  ready_room = omega (arith, plan_pos (over b) (box_of k), r.room)
+
+-- what a split gives to its halves: a part of the run, and room for its nodes
+pub record Halves (a : Samples) (k l u : Box) (f b : List ℕ) : Type 0 where
+  pub depth : k.depth < 80
+  pub deeper : (l.depth ≡ suc k.depth) × (u.depth ≡ suc k.depth)
+  pub size : size (plan a k) ≡ suc (size (plan a l) + size (plan a u))
+  pub front : Run a l f
+  pub back : Run a u b
+
+module _ (a : Samples) (k l u : Box) (full : few a k ≡ false) (parts : both a k ≡ true) (h : Halved k l u) where
+  pub halves_run : (xs ys f b : List ℕ) (m : ℕ) → Run a k xs → Parted (lodged a l) xs ys m → ys ≡ f ++ b → length f ≡ m → Halves a k l u f b
+  halves_run xs ys f b m r p e n =
+      let d = full_depth a k full in
+      let t = sym (lt-ltb k.depth 80 d) in
+      let z = run_halves a k l u h t xs r ys f b m p e n in
+      record { depth = d; deeper = halves_deeper a k l u h t xs r; size = split_size a k full l u parts h; front = z.0; back = z.1 }
+
+-- the halves that an unwrap gives
+pub halves_of : (k : Bounds) (o : Option (Bounds × Bounds)) (x : Bounds × Bounds) → o ≡ Some x → IfSome o (λ y. Halved (box_of k) (box_of y.0) (box_of y.1)) → Halved (box_of k) (box_of x.0) (box_of x.1)
+halves_of k o x e h = subst (λ p. IfSome p (λ y. Halved (box_of k) (box_of y.0) (box_of y.1))) e h

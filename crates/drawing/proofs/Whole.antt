@@ -1,10 +1,11 @@
 -- The tree over all the samples is the plan of the box of all values. Assumes nothing.
-use Rattle.std.proofs.Common.{◌≡◌, ℕ, List, [], length, sym, ap, subst, arith}
+use Rattle.std.proofs.Common.{◌≡◌, ℕ, ◌≤◌, List, [], length, sym, ap, subst, arith}
 use Rattle.boxes.specs.Views.{node_at, counts_at}
 use Rattle.boxes.specs.declared.node.Node.{Node}
 use Rattle.trees.specs.Boxes.{Box, everything}
 use Rattle.trees.specs.Drawing.{Plan, size, plan, rebuilt, Numbered, Tallied}
 use Rattle.trees.specs.Samples.{Samples}
+use Rattle.trees.proofs.Drawn.{rebuilt_size}
 use Rattle.drawing.specs.Builds.{Built}
 use Rattle.drawing.specs.Runs.{Run}
 
@@ -25,6 +26,9 @@ module _ (a : Samples) (k : Box) (e : k ≡ everything) where
 
     pub whole_size : length new ≡ size (rebuilt a)
     whole_size = let l = whole.long in omega arith
+
+    pub whole_bound : a.slots ≤ 256 → length new ≤ 1021
+    whole_bound h = omega (arith, whole_size, rebuilt_size a h)
 
     pub whole_numbered : Numbered (node_at new) (rebuilt a) everything 0
     whole_numbered = whole.numbered

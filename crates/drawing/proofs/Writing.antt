@@ -16,8 +16,9 @@ use Rattle.trees.specs.Samples.{Samples}
 use Rattle.trees.proofs.Numbering.{numbered_ext}
 use Rattle.drawing.specs.Builds.{over, nodes_of, Ready, Follows, Built, Draws}
 use Rattle.drawing.specs.Held.{held_in}
-use Rattle.drawing.specs.Runs.{Run}
+use Rattle.drawing.specs.Runs.{Run, of_code}
 use Rattle.drawing.specs.declared.build.Builder.{Builder}
+use Rattle.drawing.proofs.Lodging.{run_code}
 use Rattle.samples.specs.declared.slots.Slots.{Slots}
 
 module _ (a : Samples) where
@@ -49,6 +50,10 @@ module _ (a : Samples) where
 
   pub leaf_reads : (k : Bounds) (cs : List ℕ) (c : ℕ → ℕ) → ((g : ℕ) → g < 8 → get_or cs g 0 ≡ c g) → Reads (leaf_of k cs) trees.leaf (box_of k) 0 0 c
   leaf_reads k cs c h = record { kind = refl; box = refl; first = refl; second = refl; counts = h }
+
+  -- a leaf whose counts are those of a run of its box
+  pub run_leaf : (k : Bounds) (xs cs : List ℕ) → Run a (box_of k) xs → ((f : ℕ) → f < 8 → get_or cs f 0 ≡ of_code a xs f) → Reads (leaf_of k cs) trees.leaf (box_of k) 0 0 (of_fibre a (box_of k))
+  run_leaf k xs cs r h = leaf_reads k cs (of_fibre a (box_of k)) (λ f l. h f l ∙ run_code a (box_of k) xs r f)
 
   is_reads : (l : List Node) (n : ℕ) (x : Node) (t : trees.Kind) (k : Box) (f s : ℕ) (c : ℕ → ℕ) → get_or l n blank ≡ x → Reads x t k f s c → Is (node_at l n) t k f s
   is_reads l n x t k f s c e r = (

@@ -22,6 +22,7 @@ pub(crate) struct Builder<'a> {
     pub(crate) nodes: &'a mut ArrayVec<Node, MAX_NODES>,
 }
 
+// A run is lent beside its box: each step makes a part of either anew, and a struct of both would only be taken apart.
 impl Builder<'_> {
     // Draws the tree over a run of the box. The run is then in disorder.
     #[cycle(building)]
@@ -50,12 +51,11 @@ impl Builder<'_> {
         requires parts { both (over self.old) (box_of k) ≡ true }
         ensures { Draws self.old k self.new }
     {
-        let Some((lower, upper)) = k.halves() else {
-            unreachable()
-        };
+        let (lower, upper) = k.halves().unwrap();
         let counts = self.tally(run);
         let below = self.part(run, &lower);
         let (front, back) = run.split_at_mut(below);
+        // A node's number fits, as the check proves: a `try_from` would give an error that cannot come.
         let at = self.push(k, counts);
         self.build_box(front, lower);
         let second = self.nodes.len();

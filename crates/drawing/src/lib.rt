@@ -1,7 +1,7 @@
 // Draws the tree over the samples held.
 #![tactic(auto)]
 
-ghost use Rattle.std.specs.Prelude.{◌≡◌};
+ghost use Rattle.std.specs.Prelude.{◌≡◌, ◌≤◌};
 ghost use Rattle.arrayvec.specs.ArrayVec.{array_vec_len};
 ghost use Rattle.boxes.specs.Views.{node_at, counts_at};
 ghost use Rattle.trees.specs.Boxes.{everything};
@@ -22,6 +22,7 @@ pub const MAX_NODES: usize = 1021;
 
 // Draws the tree over the samples held, in place of the nodes that there were.
 pub fn draw(slots: &Slots, nodes: &mut ArrayVec<Node, MAX_NODES>)
+    ensures bound { array_vec_len nodes.new ≤ 1021 }
     ensures size { array_vec_len nodes.new ≡ size (rebuilt (held_in slots.now)) }
     ensures numbered { Numbered (node_at nodes.new.items) (rebuilt (held_in slots.now)) everything 0 }
     ensures tallied { Tallied (held_in slots.now) (counts_at nodes.new.items) (rebuilt (held_in slots.now)) everything 0 }

@@ -36,7 +36,8 @@ impl Builder<'_> {
     pub(crate) fn part(&self, run: &mut [u8], k: &Bounds) -> usize
         ensures { Parted (lodged (over self.now) (box_of k.now)) run.old run.new result }
     {
-        // By the index, since a turn swaps two of the slots; std has no partition in place.
+        // By the index, since a turn swaps two of the slots; std has no partition in place, and a sort by the test would put
+        // it to each slot several times.
         let mut front = 0;
         for i in 0..run.len() {
             if self.is_lodged(run[i], k) {
@@ -47,7 +48,8 @@ impl Builder<'_> {
         front
     }
 
-    // How many samples of each fibre a run has.
+    // How many samples of each fibre a run has. A verdict counts its votes over a heap that it uses up, so that the two
+    // have one statement in common.
     pub(crate) fn tally(&self, run: &[u8]) -> [u16; CODES]
         requires { length run.now ≤ 256 }
         ensures { (f : ℕ) → f < 8 → slice_index result f ≡ of_code (over self.now) run.now f }

@@ -15,8 +15,14 @@ use Rattle.boxes.specs.declared.node.Node.{Node}
 read : (ns : List Node) (x : ℕ) (n : Node) → x < length ns → node_at ns x ≡ node_of (get_or ns x n)
 read ns x n l = ap node_of (get_or_default ns x blank n l)
 
+-- the code's test says that a kind is not the leaf's
+pub no_leaf : (k : Kind) (p q : ℕ) → Some (p, q) ≡ children_of k → k ≡ Leaf → ⊥
+no_leaf Leaf p q e h = cc
+no_leaf (Split l u) p q e h = cc
+no_leaf (Shrink c r) p q e h = cc
+
 parted : (k : Kind) (p q : ℕ) → Some (p, q) ≡ children_of k → parts (kind_of k) ≡ true
-parted Leaf p q e = cc
+parted Leaf p q e = absurd (no_leaf Leaf p q e refl)
 parted (Split l u) p q e = refl
 parted (Shrink c r) p q e = refl
 

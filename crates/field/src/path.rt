@@ -1,4 +1,5 @@
-// The path of values through the nodes of a tree: the leaf at its end, and the counts along it.
+// The path of values through the nodes of a tree: the leaf at its end, and the counts along it. The rules of the tree are
+// asked of the slice: a field lends its nodes out to be written, and meanwhile its type says nothing of them.
 ghost use Rattle.std.specs.Prelude.{◌≡◌, ℕ, ◌-◌, ◌<◌, ◌&&◌, false, true, length, ◌==◌};
 ghost use Rattle.boxes.specs.Views.{entries, node_at, counts_at};
 ghost use Rattle.trees.specs.Trees.{Rules, reached, under};
@@ -6,8 +7,9 @@ ghost use Rattle.field.specs.Paths.{Goes};
 
 use boxes::Node;
 use measure::BANDS;
+use samples::Sample;
 
-// The leaf in which the values belong. A loop, since of the path's nodes only the last is asked for.
+// The leaf in which the values belong. A loop: `successors` would carry each number in an Option, to give only the last.
 pub(crate) fn leaf_of(nodes: &[Node], values: &[u16; BANDS]) -> usize
     requires rules { Rules (length nodes.now) (node_at nodes.now) }
     ensures { result ≡ reached (node_at nodes.now) (entries values.now) (length nodes.now - 1) }
@@ -19,25 +21,19 @@ pub(crate) fn leaf_of(nodes: &[Node], values: &[u16; BANDS]) -> usize
     at
 }
 
-// Changes the count of this fibre on the path of the values.
+// Changes the count of the sample's fibre on the path of its values.
 // It walks for itself: an iterator over the path would borrow the nodes that are written on the way.
-pub(crate) fn recount<F: Fn(u16) -> u16>(
-    nodes: &mut [Node],
-    fibre: u8,
-    values: &[u16; BANDS],
-    change: F,
-)
+pub(crate) fn recount<F: Fn(u16) -> u16>(nodes: &mut [Node], sample: &Sample, change: F)
     requires rules { Rules (length nodes.old) (node_at nodes.old) }
-    requires coded { fibre < 8 }
-    requires changes { (x : ℕ) → x < length nodes.old → F.pre change (counts_at nodes.old x fibre) }
+    requires changes { (x : ℕ) → x < length nodes.old → F.pre change (counts_at nodes.old x sample.now.fibre) }
     ensures shape { (x : ℕ) → node_at nodes.new x ≡ node_at nodes.old x }
-    ensures changed { (x : ℕ) → under (node_at nodes.old) (entries values.now) x ≡ true → F.post change (counts_at nodes.old x fibre) (counts_at nodes.new x fibre) }
-    ensures kept { (x f : ℕ) → (fibre == f && under (node_at nodes.old) (entries values.now) x) ≡ false → counts_at nodes.new x f ≡ counts_at nodes.old x f }
+    ensures changed { (x : ℕ) → under (node_at nodes.old) (entries sample.now.reading.values) x ≡ true → F.post change (counts_at nodes.old x sample.now.fibre) (counts_at nodes.new x sample.now.fibre) }
+    ensures kept { (x f : ℕ) → (sample.now.fibre == f && under (node_at nodes.old) (entries sample.now.reading.values) x) ≡ false → counts_at nodes.new x f ≡ counts_at nodes.old x f }
 {
     let mut at = 0;
     loop {
-        touch(nodes, at, fibre, &change);
-        let Some(next) = child_of(nodes, at, values) else {
+        touch(nodes, at, sample.fibre(), &change);
+        let Some(next) = child_of(nodes, at, sample.values()) else {
             return;
         };
         at = next;

@@ -6,7 +6,7 @@ ghost use Rattle.fieldfile.specs.Bytes.{le2, row};
 // How many numbers stand in a row: the values of bands, or the counts of fibres.
 pub(crate) const ROW: usize = 8;
 
-// The first `at` bytes of the buffer are written.
+// The first `at` bytes of the buffer are written. The buffer stays whole, since what `write` promises is told of all of it.
 #[derive(Drop)]
 pub(crate) struct Cursor<'a> {
     pub(crate) out: &'a mut [u8],

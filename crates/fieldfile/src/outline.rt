@@ -7,7 +7,7 @@ use super::records::{MARK, NODE_BYTES, SAMPLE_BYTES, TRAILER_BYTES};
 use drawing::MAX_NODES;
 use samples::SLOTS;
 
-// What is wrong with a file, by the number of the check that it fails.
+// What is wrong with a file, by the number of the check that it fails, as the format numbers them.
 #[derive(Clone, Copy, PartialEq, Eq, Debug)]
 pub enum Check {
     // Under 14 bytes, or no mark at the end.

@@ -56,7 +56,7 @@ impl Cursor<'_> {
     }
 }
 
-// The byte by which the format tells a kind.
+// The byte by which the format tells a kind. A kind is another crate's, and so is u8: no `From` can stand here.
 fn kind_byte(kind: Kind) -> u8
     ensures { result ≡ kind_code (kind_of kind) }
 {

@@ -1,11 +1,11 @@
-// What a line of a script is answered.
+// The answers to the lines of a script, and how they are printed.
 ghost use Rattle.std.specs.Prelude.{Some};
 ghost use Rattle.fullscan.specs.Answers.{letters_of, line_of};
 
 use samples::Refusal;
 use std::fmt;
 
-// What a line that is carried out is answered.
+// What a line that is carried out is answered; a verdict has the fibre's code.
 #[derive(Clone, Copy)]
 pub enum Answer {
     Measured,

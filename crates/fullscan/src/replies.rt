@@ -19,6 +19,7 @@ pub fn reply<M: Measure>(
 ) -> Result<Answer, Refusal>
     ensures { (table slots.new, result) ≡ reply_rule (M.weighed measure.now) (M.joined measure.now) (table slots.old) line }
 {
+    // Neither type is this crate's, so that no `From` between the two can stand here.
     match line.map_err(|_| Refusal::Unreadable)? {
         Command::Admit {
             slot,

@@ -52,12 +52,14 @@ impl<T: Ord + Copy> Iterator for Heap<'_, T> {
 
     ghost next_gives = { λ s r t. Popped (content s) (content t) r × (room t ≡ room s) × (Heaped (ahead T.cmp) (content s) → Heaped (ahead T.cmp) (content t)) × (Heaped (ahead T.cmp) (content s) → First (ahead T.cmp) (content s) r) };
 
+    // Takes the item that comes first out of the heap; none where nothing is held.
     fn next(&mut self) -> Option<T> {
         self.pop()
     }
 }
 
-// Writes an item into the last place and lets it rise.
+// Writes an item into the last place and lets it rise. That there is a place is asked of these steps one by one: a type for
+// slices that are not empty would be taken apart in each of them.
 fn put<T: Ord + Copy>(items: &mut [T], item: T)
     requires { 0 < length items.old }
     ensures heaped { Kept (ahead T.cmp) items.old (length items.old - 1) → Heaped (ahead T.cmp) items.new }

@@ -10,6 +10,7 @@ pub(crate) fn rise<T: Ord>(items: &mut [T])
     ensures shuffled { IsPermutation items.old items.new }
 {
     let mut at = items.len() - 1;
+    // A loop over places that climbs from each to the one above it; it counts nothing.
     while at > 0 {
         let up = (at - 1) / 2;
         if !ahead_at(items, at, up) {
@@ -27,6 +28,7 @@ pub(crate) fn sink<T: Ord>(items: &mut [T])
 {
     let n = items.len();
     let mut at = 0;
+    // A loop over places that sinks from each to one right below it; it counts nothing.
     while at < n / 2 {
         let child = first_child(items, at);
         if !ahead_at(items, child, at) {

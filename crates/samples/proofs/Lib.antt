@@ -1,5 +1,6 @@
 pub mod Gathered
 pub mod Picking
 pub mod Ranged
+pub mod Rising
 pub mod Tabled
 pub mod Voting

@@ -9,7 +9,7 @@ use Rattle.samples.specs.declared.verdict.Question.{Question}
 
 module _ {M : Type 0} (w j : M → ℕ → ℕ → ℕ) (q : Question M) where
   abbrev pub weights : ℕ → ℕ
-  weights = weight_at (w q.measure.now) (j q.measure.now) (table q.slots.now) q.reading.now
+  weights = weight_at (w q.measure.now) (j q.measure.now) (table q.slots.now) q.reading.values
 
   abbrev pub votes_on : ℕ → ℕ → ℕ
-  votes_on = votes (w q.measure.now) (j q.measure.now) (table q.slots.now) q.reading.now
+  votes_on = votes (w q.measure.now) (j q.measure.now) (table q.slots.now) q.reading.values

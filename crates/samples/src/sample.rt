@@ -12,6 +12,7 @@ pub const MAX_VALUE: u16 = 1023;
 // The largest fibre code.
 pub const MAX_FIBRE: u16 = 7;
 
+// Eight values, one of each band, none above the largest.
 #[derive(Clone, Copy)]
 pub struct Reading {
     values: [u16; BANDS],
@@ -63,6 +64,7 @@ impl Sample {
         })
     }
 
+    // The fibre code.
     pub fn fibre(&self) -> u8
         ensures value { result ≡ self.now.fibre }
         ensures coded { result < 8 }
@@ -70,6 +72,7 @@ impl Sample {
         self.fibre
     }
 
+    // The value of each band.
     pub fn values(&self) -> &[u16; BANDS]
         ensures { result.now ≡ self.now.reading.values }
     {

@@ -11,6 +11,7 @@ pub use held::Held;
 // How many slots there are.
 pub const SLOTS: usize = 256;
 
+// What each slot holds, in the order of slots.
 #[derive(Drop)]
 pub struct Slots {
     cells: [Option<Sample>; SLOTS],

@@ -2,7 +2,7 @@
 ghost use Rattle.std.specs.Prelude.{◌≡◌, ℕ, ◌<◌, ◌≤◌, [], IfOk, slice_index};
 ghost use Rattle.heap.specs.Contents.{content, room};
 ghost use Rattle.heap.specs.Order.{ahead, Heaped};
-ghost use Rattle.samples.specs.Candidates.{Holds};
+ghost use Rattle.samples.specs.Candidates.{Holds, by_weight};
 ghost use Rattle.samples.specs.Questions.{weights, votes_on};
 ghost use Rattle.samples.specs.Slots.{table, held};
 ghost use Rattle.samples.specs.Verdict.{samples, verdict_rule, Exact};
@@ -30,7 +30,7 @@ pub fn exact_verdict<M: Measure>(
     ensures value { result ≡ verdict_rule (M.weighed measure.now) (M.joined measure.now) (table slots.now) reading.now k }
     ensures exact { IfOk result (λ f. Exact (M.weighed measure.now) (M.joined measure.now) (table slots.now) reading.now k f) }
 {
-    Reading::new(reading)?;
+    let reading = Reading::new(reading)?;
     if !(MIN_K..=MAX_K).contains(&k) {
         return Err(Refusal::OutOfRange);
     }
@@ -50,7 +50,7 @@ pub fn exact_verdict<M: Measure>(
 struct Question<'a, M> {
     measure: &'a M,
     slots: &'a Slots,
-    reading: &'a [u16; BANDS],
+    reading: Reading,
 }
 
 impl<M: Measure> Question<'_, M> {
@@ -77,11 +77,11 @@ impl<M: Measure> Question<'_, M> {
         requires empty { content heap.old ≡ [] }
         requires room { 256 ≤ room heap.old }
         ensures holds { Holds (content heap.new) (weights M.weighed M.joined self.now) (held (table self.now.slots.now)) 256 }
-        ensures heaped { Heaped (ahead ⟦<Candidate as Ord>⟧.cmp) (content heap.new) }
+        ensures heaped { Heaped (ahead by_weight) (content heap.new) }
     {
         for slot in 0..=u8::MAX {
             if let Some(sample) = self.slots.get(slot) {
-                let weight = measure::weight(self.measure, sample.values(), self.reading);
+                let weight = measure::weight(self.measure, sample.values(), self.reading.values());
                 let _ = heap.push(Candidate { weight, slot });
             }
         }

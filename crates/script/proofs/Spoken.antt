@@ -17,7 +17,9 @@ use Rattle.std.specs.declared.str.Split.{Split}
 use Rattle.script.specs.Commands.{refused, commanded, measured, letter_of, said, command_of, measure_of}
 use Rattle.script.specs.Lines.{words_of}
 use Rattle.script.specs.Numbers.{both, numbers, is_number, number_of}
-use Rattle.script.specs.Steps.{Gives}
+use Rattle.script.specs.Steps.{Gives, Parts}
+use Rattle.script.specs.declared.Command.{Command}
+use Rattle.script.specs.declared.MeasureKind.{MeasureKind}
 use Rattle.script.specs.declared.Unreadable.{Unreadable}
 
 abbrev pub Turn : Split ℕ → Option (Bor (List ℕ)) → Split ℕ → Type 0
@@ -149,3 +151,14 @@ command_lettered line c ws e = ap (said commanded) e
 pub measure_lettered : (line : List ℕ) (c : ℕ) (ws : List (List ℕ)) → words_of line ≡ (c ∷ []) ∷ ws → measure_of line ≡ measured c (λ n. numbers n ws)
 unfolding measure_of
 measure_lettered line c ws e = ap (said measured) e
+
+-- A letter whose case reads n numbers: what it means by those that were read, the line says.
+module _ (line : List ℕ) (c n : ℕ) (words : Split ℕ) {k : ℕ} {its : Option (List ℕ)} (parts : Parts line (Ok (c, words))) (is : c ≡ k) (read : (ws : List (List ℕ)) → Gives words ws → its ≡ numbers n ws) where
+  numbers_read : {X : Type 0} (meant : ℕ → (ℕ → Option (List ℕ)) → Result X Unreadable) (meaning : Option (List ℕ) → Result X Unreadable) → ((all : ℕ → Option (List ℕ)) → meant k all ≡ meaning (all n)) → meaning its ≡ meant c (λ m. numbers m parts.0)
+  numbers_read meant meaning case = sym (ap (λ l. meant l (λ m. numbers m parts.0)) is ∙ case _ ∙ ap meaning (sym (read parts.0 parts.2)))
+
+  pub command_read : (meaning : Option (List ℕ) → Result Command Unreadable) → ((all : ℕ → Option (List ℕ)) → commanded k all ≡ meaning (all n)) → meaning its ≡ command_of line
+  command_read meaning case = numbers_read commanded meaning case ∙ sym (command_lettered line c parts.0 parts.1)
+
+  pub measure_read : (meaning : Option (List ℕ) → Result MeasureKind Unreadable) → ((all : ℕ → Option (List ℕ)) → measured k all ≡ meaning (all n)) → meaning its ≡ measure_of line
+  measure_read meaning case = numbers_read measured meaning case ∙ sym (measure_lettered line c parts.0 parts.1)

@@ -17,9 +17,13 @@ letter_of [] = 0
 letter_of (c ∷ []) = c
 letter_of (c ∷ b ∷ bs) = 0
 
+-- A slot, a fibre and the values of a sample.
+abbrev pub admitted : List ℕ → Command
+admitted vs = Admit (slice_index vs 0) (slice_index vs 1) (drop 2 vs)
+
 abbrev pub admit_of : Option (List ℕ) → Result Command Unreadable
 admit_of None = refused
-admit_of (Some vs) = Ok (Admit (slice_index vs 0) (slice_index vs 1) (drop 2 vs))
+admit_of (Some vs) = Ok (admitted vs)
 
 abbrev pub withdraw_of : Option (List ℕ) → Result Command Unreadable
 withdraw_of None = refused
@@ -29,9 +33,13 @@ abbrev pub rebuild_of : Option (List ℕ) → Result Command Unreadable
 rebuild_of None = refused
 rebuild_of (Some vs) = Ok Rebuild
 
+-- How many are asked, a ratio and the values of a reading.
+abbrev pub asked : List ℕ → Command
+asked vs = Query (record { k = slice_index vs 0; num = slice_index vs 1; den = slice_index vs 2; reading = drop 3 vs })
+
 abbrev pub query_of : Option (List ℕ) → Result Command Unreadable
 query_of None = refused
-query_of (Some vs) = Ok (Query (record { k = slice_index vs 0; num = slice_index vs 1; den = slice_index vs 2; reading = drop 3 vs }))
+query_of (Some vs) = Ok (asked vs)
 
 -- The measure with a number.
 abbrev pub kind_numbered : ℕ → Result MeasureKind Unreadable

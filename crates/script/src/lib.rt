@@ -28,6 +28,7 @@ pub enum MeasureKind {
     Damped,
 }
 
+// Each number stands for one measure, or for none.
 impl TryFrom<u16> for MeasureKind {
     type Error = Unreadable;
 
@@ -79,6 +80,7 @@ pub struct Script<'a> {
     rest: &'a [u8],
 }
 
+// A script is opened, and its lines are taken one by one.
 impl<'a> Script<'a> {
     // The measure of the first line, and the lines behind it; refused where the text is too long or
     // its first line names no measure.
@@ -94,7 +96,7 @@ impl<'a> Script<'a> {
         Ok((measure, script))
     }
 
-    // The bytes of the next line, without its line feed.
+    // The bytes of the next line, without its line feed. By its length, since the contract speaks of what is left behind it.
     fn take_line(&mut self) -> Option<&'a [u8]>
         ensures { FirstLine self.old result self.new }
     {
@@ -117,6 +119,7 @@ fn line_len(text: &[u8]) -> usize
         .unwrap_or(text.len())
 }
 
+// A script yields what its lines say.
 impl Iterator for Script<'_> {
     type Item = Result<Command, Unreadable>;
 
@@ -137,6 +140,7 @@ mod tests {
     use std::process::Abort;
     use std::test::Fail;
 
+    // Each of the lines is refused.
     fn all_unreadable(rt: &impl Abort, lines: &[&[u8]]) {
         for line in lines {
             assert_eq!(rt; parse_command(line), Err(Unreadable));

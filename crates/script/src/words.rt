@@ -27,7 +27,7 @@ pub fn letter_and_words(line: &[u8]) -> Result<(char, Split<'_, char>), Unreadab
     Ok((char::from(letter), words))
 }
 
-// The numbers that the words write, if there are just N and each writes one.
+// The numbers that the words write, if there are just N and each writes one: word by word, up to the first that writes none.
 pub fn numbers<const N: usize>(mut words: Split<'_, char>) -> Result<[u16; N], Unreadable>
     ensures { (ws : List (List ℕ)) → Gives words.entry ws → result_ok result ≡ numbers N ws }
 {

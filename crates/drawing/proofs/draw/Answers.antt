@@ -3,7 +3,7 @@ use Rattle.boxes.specs.Views.{box_of}
 use Rattle.trees.specs.Drawing.{size}
 use Rattle.trees.proofs.Drawn.{rebuilt_size}
 use Rattle.drawing.specs.Held.{held_in}
-use Rattle.drawing.proofs.Whole.{plan_whole, run_whole, whole_size, whole_numbered, whole_tallied}
+use Rattle.drawing.proofs.Whole.{plan_whole, run_whole, whole_size, whole_bound, whole_numbered, whole_tallied}
 use Rattle.drawing.proofs.draw.Goals as goal
 
 pub build_box-requires : goal.build_box-requires
@@ -28,7 +28,9 @@ returns c =
     let size = whole_size a k all _ _ c.clear.ensures drawn in
     let numbered = whole_numbered a k all _ _ c.clear.ensures drawn in
     let tallied = whole_tallied a k all _ _ c.clear.ensures drawn in
+    let bound = whole_bound a k all _ _ c.clear.ensures drawn (omega arith) in
     record {
+      bound = search rules;
       size = search rules;
       numbered = search rules;
       tallied = search rules;

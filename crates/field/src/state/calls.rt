@@ -62,9 +62,10 @@ impl Field {
         ensures samples { (holds self.new, result) ≡ admit_rule (holds self.old) slot fibre values.now }
         ensures tree { Recounts raised fibre (entries values.now) self.old self.new result }
     {
+        let sample = Sample::new(fibre, values)?;
         self.slots.admit(slot, fibre, values)?;
         let nodes = self.nodes.as_mut_slice();
-        recount(nodes, fibre as u8, values, |count| count + 1);
+        recount(nodes, &sample, |count| count + 1);
         Ok(())
     }
 
@@ -77,9 +78,7 @@ impl Field {
         self.slots.withdraw(slot)?;
         if let Some(sample) = held {
             let nodes = self.nodes.as_mut_slice();
-            recount(nodes, sample.fibre(), sample.values(), |count| {
-                count.saturating_sub(1)
-            });
+            recount(nodes, &sample, |count| count.saturating_sub(1));
         }
         Ok(())
     }

@@ -24,7 +24,7 @@ impl Slots {
     pub fn get(&self, slot: u8) -> Option<&Sample>
         ensures { option_map (λ x. point x.now) result ≡ at (table self.now) slot }
     {
-        self.cells[slot as usize].as_ref()
+        self.cells[usize::from(slot)].as_ref()
     }
 
     // How many samples there are.
@@ -50,7 +50,7 @@ impl Slots {
         Ok(())
     }
 
-    // Empties a slot that holds a sample.
+    // Empties a slot that holds a sample. Tested and then written, since no proof is made where `take` says both at once.
     pub fn withdraw(&mut self, slot: u16) -> Result<(), Refusal>
         ensures { (table self.new, result) ≡ withdraw_rule (table self.old) slot }
     {

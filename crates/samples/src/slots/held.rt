@@ -7,7 +7,7 @@ ghost use Rattle.samples.specs.Slots.{table, point, NextHeld};
 use super::Slots;
 use crate::sample::Sample;
 
-// The samples from one slot on. The slot is counted here, in the iterator itself, so that nobody else counts it.
+// The samples from one slot on.
 #[derive(Drop)]
 pub struct Held<'a> {
     slots: &'a Slots,
@@ -34,13 +34,11 @@ impl<'a> Iterator for Held<'a> {
 
     ghost next_gives = { λ s r t. NextHeld (table s.slots.now) s.from (option_map (λ x. (x.0, point x.1.now)) r) t.from × (t.slots ≡ s.slots) };
 
+    // The first sample from here on, with its slot; none where no slot from here on holds one.
     fn next(&mut self) -> Option<(u8, &'a Sample)> {
-        while let Ok(slot) = u8::try_from(self.from) {
-            self.from += 1;
-            if let Some(sample) = self.slots.get(slot) {
-                return Some((slot, sample));
-            }
-        }
-        None
+        let from = u8::try_from(self.from).ok()?;
+        let slot = (from..=u8::MAX).find(|&slot| self.slots.get(slot).is_some())?;
+        self.from = u16::from(slot) + 1;
+        Some((slot, self.slots.get(slot)?))
     }
 }

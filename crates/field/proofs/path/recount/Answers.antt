@@ -10,9 +10,9 @@ loop-next-init g c =
     let os = c.args.nodes.now in
     record {
       within = c.requires.rules.some;
-      on_path = under_root (node_at os) (entries c.args.values.now);
+      on_path = under_root (node_at os) (entries c.args.sample.now.reading.values);
       shape = refl;
-      marks = mark_begins _ c.args.fibre (entries c.args.values.now) os c.requires.rules;
+      marks = mark_begins _ c.args.sample.now.fibre (entries c.args.sample.now.reading.values) os c.requires.rules;
     }
 
 pub child_of-requires-clause-rules : goal.child_of-requires-clause-rules
@@ -24,19 +24,19 @@ child_of-requires-clause-rules g c =
 pub loop-next-preserved : goal.loop-next-preserved
 loop-next-preserved g c =
     let os = c.args.nodes.now in
-    let v = entries c.args.values.now in
+    let v = entries c.args.sample.now.reading.values in
     let at = c.loop-next.at in
     let z = c.in-Some.next in
     let inv = c.loop-next.invariant in
     let same : node_at c.touch.new.nodes ≡ node_at os = (λ i y. c.touch.ensures.shape y i) ∙ inv.shape in
-    let goes = c.in-Some.ensures in
+    let goes = rw c.values.ensures at c.in-Some.ensures in
     let n : next (node_at os) v at z ≡ true = ap (λ t. next t v at z) (sym same) ∙ goes.0 in
     let l : at < length os = omega arith in
     record {
       within = goes.2;
       on_path = next_under (length os) (node_at os) c.requires.rules v at z l inv.on_path n;
       shape = same;
-      marks = mark_steps _ c.args.fibre v os c.requires.rules c.loop-next.nodes c.touch.new.nodes at l inv.on_path inv.marks c.touch.ensures.changed c.touch.ensures.kept z n goes.1;
+      marks = mark_steps _ c.args.sample.now.fibre v os c.requires.rules c.loop-next.nodes c.touch.new.nodes at l inv.on_path inv.marks (rw c.fibre.ensures.value at c.touch.ensures.changed) (rw c.fibre.ensures.value at c.touch.ensures.kept) z n goes.1;
     }
 
 pub returns-in_default : goal.returns-in_default
@@ -45,5 +45,5 @@ returns-in_default g c =
     let at = c.loop-next.at in
     let inv = c.loop-next.invariant in
     let same : node_at c.touch.new.nodes ≡ node_at os = (λ i y. c.touch.ensures.shape y i) ∙ inv.shape in
-    let m = mark_ends _ c.args.fibre (entries c.args.values.now) os c.requires.rules c.loop-next.nodes c.touch.new.nodes at (omega arith) inv.on_path inv.marks c.touch.ensures.changed c.touch.ensures.kept (ap (λ t. (t at).kind) (sym same) ∙ c.in_default.ensures) in
+    let m = mark_ends _ c.args.sample.now.fibre (entries c.args.sample.now.reading.values) os c.requires.rules c.loop-next.nodes c.touch.new.nodes at (omega arith) inv.on_path inv.marks (rw c.fibre.ensures.value at c.touch.ensures.changed) (rw c.fibre.ensures.value at c.touch.ensures.kept) (ap (λ t. (t at).kind) (sym same) ∙ c.in_default.ensures) in
     record { shape = λ x. ap (λ t. t x) same; changed = m.changed; kept = λ x f. m.kept x f }

@@ -9,9 +9,9 @@ invariant-loop-next g l =
     let os = l.initial.nodes in
     record {
       within : l.at < length l.nodes;
-      on_path : under (node_at os) (entries l.values) l.at ≡ true;
+      on_path : under (node_at os) (entries l.sample.reading.values) l.at ≡ true;
       shape : node_at l.nodes ≡ node_at os;
-      marks : Marks (goal.F-post g l.change) l.fibre (λ y. under (node_at os) (entries l.values) y && ltb y l.at) os l.nodes;
+      marks : Marks (goal.F-post g l.change) l.sample.fibre (λ y. under (node_at os) (entries l.sample.reading.values) y && ltb y l.at) os l.nodes;
     }
 
 abbrev pub decreases-loop-next : goal.decreases-loop-next

@@ -1,22 +1,21 @@
-use Rattle.std.proofs.Common.{◌≡◌, ◌<◌, ◌≤◌, true, sym, refl, ◌∙◌, arith, rules}
-use Rattle.std.proofs.lemmas.Bool.{ltb-false}
+use Rattle.std.proofs.Common.{◌≡◌, ◌<◌, ◌≤◌, true, ◌∙◌, arith, rules}
+use Rattle.std.proofs.lemmas.Bool.{lt-ltb}
 use Rattle.boxes.specs.Views.{box_of}
 use Rattle.boxes.proofs.Gridded.{grid_of}
 use Rattle.boxes.proofs.Viewed.{zeros_at}
-use Rattle.trees.specs.Drawing.{few, of_fibre}
-use Rattle.drawing.proofs.Writing.{leaf_reads, pushed_long, leaf_built, split_built, shrink_built, as_plan, ready_after, follows_after, drawn_after}
+use Rattle.trees.specs.Drawing.{few}
+use Rattle.drawing.proofs.Writing.{leaf_reads, run_leaf, pushed_long, leaf_built, split_built, shrink_built, as_plan, ready_after, follows_after, drawn_after}
 use Rattle.trees.proofs.Drawn.{plan_stop}
 use Rattle.drawing.specs.Builds.{over, nodes_of}
-use Rattle.drawing.proofs.Lodging.{run_halves, halves_deeper}
-use Rattle.drawing.proofs.Planned.{plan_pos, few_deep, few_short, full_long, run_bound, run_tally, deeper_one_half, level_both, full_depth, split_plan, split_size, shrink_plan, shrink_size, shrink_deeper, inner_run}
+use Rattle.drawing.proofs.Planned.{few_deep, few_short, full_long, ready_bound, ready_room, deeper_one_half, level_both, full_depth, halves_of, halves_run, split_plan, shrink_plan, shrink_size, shrink_deeper, inner_run}
 use Rattle.drawing.proofs.build.Builder.+building.Goals as goal
 use Rattle.drawing.proofs.build.Builder.+building.Goals.{build_box-then-run-le-LEAF_SAMPLES-via-then-run-le-LEAF_SAMPLES, build_box-then-run-le-LEAF_SAMPLES-via-else-run-le-LEAF_SAMPLES+then-depth-ge-MAX_DEPTH}
 
 pub build_box-tally-counts-requires : goal.build_box-tally-counts-requires
-build_box-tally-counts-requires t c = run_bound (over c.args.self.now) (box_of c.args.k) c.args.run.now c.requires.run
+build_box-tally-counts-requires t c = ready_bound _ _ _ c.requires
 
 pub build_box-push-requires : goal.build_box-push-requires
-build_box-push-requires t c = let p = plan_pos (over c.args.self.now) (box_of c.args.k) in omega (arith, c.requires.room)
+build_box-push-requires t c = ready_room _ _ _ c.requires
 
 pub build_box-returns-then-run-le-LEAF_SAMPLES :
     goal.build_box-returns-then-run-le-LEAF_SAMPLES
@@ -28,7 +27,7 @@ build_box-returns-then-run-le-LEAF_SAMPLES t c =
       | build_box-then-run-le-LEAF_SAMPLES-via-else-run-le-LEAF_SAMPLES+then-depth-ge-MAX_DEPTH w ↦ few_deep a k (omega (arith, w.if-depth-ge-MAX_DEPTH.true, w.depth.ensures.value))
     ]
     in
-    let leaf = leaf_reads a c.args.k c.tally-counts.result (of_fibre a k) (run_tally a k c.args.run.now c.requires.run c.tally-counts.result c.tally-counts.result refl c.tally-counts.ensures) in
+    let leaf = run_leaf a c.args.k c.args.run.now c.tally-counts.result c.requires.run c.tally-counts.ensures in
     record { same = c.push.ensures.same; drawn = as_plan a (plan_stop a k f) (leaf_built a (nodes_of c.args.self.now) (nodes_of c.push.new.self) _ c.push.ensures.pushed k leaf) }
 
 pub build_box-build_shrink-requires : goal.build_box-build_shrink-requires
@@ -61,10 +60,10 @@ build_box-build_split-requires t c =
     )
 
 pub build_shrink-tally-counts-requires : goal.build_shrink-tally-counts-requires
-build_shrink-tally-counts-requires t c = run_bound (over c.args.self.now) (box_of c.args.k) c.args.run.now c.requires.ready.run
+build_shrink-tally-counts-requires t c = ready_bound _ _ _ c.requires.ready
 
 pub build_shrink-push-at-requires : goal.build_shrink-push-at-requires
-build_shrink-push-at-requires t c = let p = plan_pos (over c.args.self.now) (box_of c.args.k) in omega (arith, c.requires.ready.room)
+build_shrink-push-at-requires t c = ready_room _ _ _ c.requires.ready
 
 pub build_shrink-build_box-requires : goal.build_shrink-build_box-requires
 build_shrink-build_box-requires t c =
@@ -101,7 +100,7 @@ build_shrink-returns t c =
     let k = box_of c.args.k in
     let u = drawn_after b c.push-at.new.self c.push-at.ensures.same c.args.inner c.build_box.new.self c.build_box.ensures in
     let f = follows_after b c.push-at.new.self c.push-at.ensures.same c.args.inner c.build_box.new.self c.build_box.ensures in
-    let leaf = leaf_reads a c.args.k c.tally-counts.result (of_fibre a k) (run_tally a k c.args.run.now c.requires.ready.run c.tally-counts.result c.tally-counts.result refl c.tally-counts.ensures) in
+    let leaf = run_leaf a c.args.k c.args.run.now c.tally-counts.result c.requires.ready.run c.tally-counts.ensures in
     let rim = leaf_reads a c.args.k _ (λ f. 0) (λ f l. zeros_at f) in
     record {
       same = record { slots = c.push-rim.ensures.same.slots ∙ f.slots; nodes = search rules };
@@ -111,59 +110,48 @@ build_shrink-returns t c =
           c.requires.inner leaf c.push-at.ensures.pushed c.push-at.ensures.number u rim c.push-rim.ensures.pushed c.push-rim.ensures.number));
     }
 
-pub build_split-unreachable-requires : goal.build_split-unreachable-requires
-build_split-unreachable-requires t c =
-    let d = full_depth (over c.args.self.now) (box_of c.args.k) c.requires.full in
-    let e = ltb-false c.args.k.depth 80 (sym c.in_default.ensures.test) in
-    omega arith
+pub build_split-unwrap-requires : goal.build_split-unwrap-requires
+build_split-unwrap-requires t c = c.halves.ensures.test ∙ lt-ltb c.args.k.depth 80 (full_depth (over c.args.self.now) (box_of c.args.k) c.requires.full)
 
 pub build_split-tally-counts-requires : goal.build_split-tally-counts-requires
-build_split-tally-counts-requires t c = run_bound (over c.args.self.now) (box_of c.args.k) c.args.run.now c.requires.ready.run
+build_split-tally-counts-requires t c = ready_bound _ _ _ c.requires.ready
 
 pub build_split-push-at-requires : goal.build_split-push-at-requires
-build_split-push-at-requires t c = let p = plan_pos (over c.args.self.now) (box_of c.args.k) in omega (arith, c.requires.ready.room)
+build_split-push-at-requires t c = ready_room _ _ _ c.requires.ready
 
 pub build_split-build_box-requires : goal.build_split-build_box-requires
 build_split-build_box-requires t c =
     let b = c.args.self.now in
     let a = over b in
-    let k = box_of c.args.k in
-    let h = c.in-Some.ensures in
+    let h = halves_of c.args.k _ c.unwrap.result c.unwrap.ensures c.halves.ensures.value in
     let f = c.split_at_mut-front in
-    let e = split_size a k c.requires.full _ _ c.requires.parts h.value in
-    let d = full_depth a k c.requires.full in
-    let m = (halves_deeper a k _ _ h.value h.test c.args.run.now c.requires.ready.run).0 in
-    let r = run_halves a k _ _ h.value h.test c.args.run.now c.requires.ready.run c.part-below.new.run f.result.0.now f.result.1.now c.part-below.result c.part-below.ensures f.ensures.value f.ensures.front_len in
+    let p = halves_run a _ _ _ c.requires.full c.requires.parts h _ _ _ _ _ c.requires.ready.run c.part-below.ensures f.ensures.value f.ensures.front_len in
     let l = pushed_long a _ _ _ c.push-at.ensures.pushed in
-    (search rules, ready_after b c.push-at.new.self c.push-at.ensures.same c.in-Some.lower f.result.0.now r.0 (omega (arith, c.requires.ready.room)))
+    (search rules, ready_after b c.push-at.new.self c.push-at.ensures.same c.unwrap.result.0 f.result.0.now p.front (omega (arith, c.requires.ready.room, p.size)))
 
 pub build_split-build_box-requires-2 : goal.build_split-build_box-requires-2
 build_split-build_box-requires-2 t c =
     let b = c.args.self.now in
     let a = over b in
-    let k = box_of c.args.k in
-    let h = c.in-Some.ensures in
+    let h = halves_of c.args.k _ c.unwrap.result c.unwrap.ensures c.halves.ensures.value in
     let f = c.split_at_mut-front in
-    let e = split_size a k c.requires.full _ _ c.requires.parts h.value in
-    let d = full_depth a k c.requires.full in
-    let m = (halves_deeper a k _ _ h.value h.test c.args.run.now c.requires.ready.run).1 in
-    let r = run_halves a k _ _ h.value h.test c.args.run.now c.requires.ready.run c.part-below.new.run f.result.0.now f.result.1.now c.part-below.result c.part-below.ensures f.ensures.value f.ensures.front_len in
+    let p = halves_run a _ _ _ c.requires.full c.requires.parts h _ _ _ _ _ c.requires.ready.run c.part-below.ensures f.ensures.value f.ensures.front_len in
     let l = pushed_long a _ _ _ c.push-at.ensures.pushed in
-    let u = drawn_after b c.push-at.new.self c.push-at.ensures.same c.in-Some.lower c.build_box.new.self c.build_box.ensures in
-    let s = follows_after b c.push-at.new.self c.push-at.ensures.same c.in-Some.lower c.build_box.new.self c.build_box.ensures in
-    (search rules, ready_after b c.build_box.new.self s c.in-Some.upper f.result.1.now r.1 (omega (arith, c.requires.ready.room, u.long)))
+    let u = drawn_after b c.push-at.new.self c.push-at.ensures.same c.unwrap.result.0 c.build_box.new.self c.build_box.ensures in
+    let s = follows_after b c.push-at.new.self c.push-at.ensures.same c.unwrap.result.0 c.build_box.new.self c.build_box.ensures in
+    (search rules, ready_after b c.build_box.new.self s c.unwrap.result.1 f.result.1.now p.back (omega (arith, c.requires.ready.room, p.size, u.long)))
 
 pub build_split-returns : goal.build_split-returns
 build_split-returns t c =
     let b = c.args.self.now in
     let a = over b in
     let k = box_of c.args.k in
-    let h = c.in-Some.ensures.value in
-    let u = drawn_after b c.push-at.new.self c.push-at.ensures.same c.in-Some.lower c.build_box.new.self c.build_box.ensures in
-    let s = follows_after b c.push-at.new.self c.push-at.ensures.same c.in-Some.lower c.build_box.new.self c.build_box.ensures in
-    let v = drawn_after b c.build_box.new.self s c.in-Some.upper c.build_box-2.new.self c.build_box-2.ensures in
-    let f = follows_after b c.build_box.new.self s c.in-Some.upper c.build_box-2.new.self c.build_box-2.ensures in
-    let leaf = leaf_reads a c.args.k c.tally-counts.result (of_fibre a k) (run_tally a k c.args.run.now c.requires.ready.run c.tally-counts.result c.tally-counts.result refl c.tally-counts.ensures) in
+    let h = halves_of c.args.k _ c.unwrap.result c.unwrap.ensures c.halves.ensures.value in
+    let u = drawn_after b c.push-at.new.self c.push-at.ensures.same c.unwrap.result.0 c.build_box.new.self c.build_box.ensures in
+    let s = follows_after b c.push-at.new.self c.push-at.ensures.same c.unwrap.result.0 c.build_box.new.self c.build_box.ensures in
+    let v = drawn_after b c.build_box.new.self s c.unwrap.result.1 c.build_box-2.new.self c.build_box-2.ensures in
+    let f = follows_after b c.build_box.new.self s c.unwrap.result.1 c.build_box-2.new.self c.build_box-2.ensures in
+    let leaf = run_leaf a c.args.k c.args.run.now c.tally-counts.result c.requires.ready.run c.tally-counts.ensures in
     record {
       same = record { slots = f.slots; nodes = search rules };
       drawn = rw c.deref_mut.ensures.value

@@ -1,4 +1,4 @@
-use Rattle.std.proofs.Common.{◌≡◌, ℕ, ◌-◌, true, sym, ◌∙◌, subst, arith, rules}
+use Rattle.std.proofs.Common.{◌≡◌, ℕ, ◌-◌, true, sym, subst, arith, rules}
 use Rattle.arrayvec.specs.ArrayVec.{with_items}
 use Rattle.samples.specs.Slots.{table, point, fibre_at, values_at}
 use Rattle.samples.proofs.Tabled.{withdrawn_says, length_table, fibre_some, values_some}
@@ -20,15 +20,15 @@ lowers c =
     let z = c.args.slot in
     let p = point c.in-Some.sample in
     let got = c.in-Some.ensures in
-    let fibre : c.fibre.result ≡ fibre_at t z = c.fibre.ensures.value ∙ sym (fibre_some t z p got) in
-    let values : c.values.result.now ≡ values_at t z = c.values.ensures ∙ sym (values_some t z p got) in
+    let fibre : p.fibre ≡ fibre_at t z = sym (fibre_some t z p got) in
+    let values : p.values ≡ values_at t z = sym (values_some t z p got) in
     let os = c.as_mut_slice-nodes.result.now in
     let ns = c.recount.new.nodes in
-    let v = entries c.values.result.now in
-    let down : (x : ℕ) → under (node_at os) v x ≡ true → counts_at ns x c.fibre.result ≡ counts_at os x c.fibre.result - 1 = λ x u. let h = c.recount.ensures.changed x u in search rules in
-    let h = written f.nodes os c.as_mut_slice-nodes.ensures.value lowered c.fibre.result v ns c.recount.auto.nodes c.recount.ensures.shape (lowered_from os ns c.fibre.result v c.recount.ensures.kept down) in
+    let v = entries p.values in
+    let down : (x : ℕ) → under (node_at os) v x ≡ true → counts_at ns x p.fibre ≡ counts_at os x p.fibre - 1 = λ x u. let h = c.recount.ensures.changed x u in search rules in
+    let h = written f.nodes os c.as_mut_slice-nodes.ensures.value lowered p.fibre v ns c.recount.auto.nodes c.recount.ensures.shape (lowered_from os ns p.fibre v c.recount.ensures.kept down) in
     subst (λ g. Recounted lowered g (entries (values_at t z)) f.nodes (with_items f.nodes ns)) fibre
-    (subst (λ vs. Recounted lowered c.fibre.result (entries vs) f.nodes (with_items f.nodes ns)) values h)
+    (subst (λ vs. Recounted lowered p.fibre (entries vs) f.nodes (with_items f.nodes ns)) values h)
 
 pub invariant_of-self-in-Some : goal.invariant_of-self-in-Some
 invariant_of-self-in-Some c =

@@ -1,7 +1,7 @@
-use Rattle.std.proofs.Common.{◌≡◌, ◌-◌, cond, [], Some, None, sym, ap, ◌∙◌, subst, arith}
-use Rattle.samples.specs.Slots.{table, point, held, NextHeld}
-use Rattle.samples.specs.declared.slots.Slots.{Slots}
+use Rattle.std.proofs.Common.{◌≡◌, ◌-◌, cond, [], Some, None, sym, ap, ◌∙◌, arith}
+use Rattle.samples.specs.Slots.{point, held}
 use Rattle.samples.proofs.Tabled.{held_some, fibre_some, values_some}
+use Rattle.drawing.proofs.Walking.{walk_begins, step_finds}
 use Rattle.boxes.specs.Views.{entries}
 use Rattle.trees.specs.Trees.{reached}
 use Rattle.trees.proofs.Pathed.{reached_le}
@@ -14,10 +14,8 @@ use Rattle.fieldfile.proofs.cursor.Cursor.put_samples.Goals as goal
 pub loop-slot-init : goal.loop-slot-init
 loop-slot-init c =
     let it = c.into_iter-slot-iterator in
-    let same = it.ensures.into_iter_gives in
-    let from : it.result.from ≡ 0 = ap (λ s. s.from) same ∙ c.iter-slot-items.ensures.from in
-    let slots = ap (λ s. s.slots.now) same ∙ c.iter-slot-items.ensures.slots ∙ c.slots.ensures in
-    (tt, tt, slots, omega arith, adds_as (adds_no_pieces _ _) (ap (samples_bytes c.args.field.now) (sym from)))
+    let begin = walk_begins it.result _ _ it.ensures.into_iter_gives c.iter-slot-items.ensures.from (c.iter-slot-items.ensures.slots ∙ c.slots.ensures) in
+    (tt, tt, begin.1, omega (arith, begin.0), adds_as (adds_no_pieces _ _) (ap (samples_bytes c.args.field.now) (sym begin.0)))
 
 pub overflow_cast-leaf : goal.overflow_cast-leaf
 overflow_cast-leaf c =
@@ -33,7 +31,7 @@ put_sample-requires c =
     let s = c.loop-slot.slot-iterator.from in
     let i = c.in-Some.slot in
     let x = point c.in-Some.sample.now in
-    let next : NextHeld t s (Some (i, x)) c.next.new.self.from = subst (λ (xs : Slots). NextHeld (table xs) s (Some (i, x)) c.next.new.self.from) inv.2 c.in-Some.ensures.steps.0 in
+    let next = step_finds _ _ s (Some (i, x)) c.next.new.self.from inv.2 c.in-Some.ensures.steps.0 in
     let few = count_before (held t) i 256 next.1 (held_some t i x (sym next.3)) in
     let upto = adds_as inv.4 (nothing_between f s i next.0 next.2) in
     let long = length_samples f i in
@@ -49,7 +47,7 @@ loop-slot-preserved c =
     let i = c.in-Some.slot in
     let n = c.next.new.self.from in
     let x = point c.in-Some.sample.now in
-    let next : NextHeld t s (Some (i, x)) n = subst (λ (xs : Slots). NextHeld (table xs) s (Some (i, x)) n) inv.2 c.in-Some.ensures.steps.0 in
+    let next = step_finds _ _ s (Some (i, x)) n inv.2 c.in-Some.ensures.steps.0 in
     let found = sym next.3 in
     let full = held_some t i x found in
     let fibre = fibre_some t i x found in
@@ -68,5 +66,5 @@ returns c =
     let t = holds f in
     let inv = c.loop-slot.invariant in
     let s = c.loop-slot.slot-iterator.from in
-    let none : NextHeld t s None 256 = subst (λ (xs : Slots). NextHeld (table xs) s None 256) inv.2 c.in-None.ensures.steps.0 in
+    let none = step_finds _ _ s None 256 inv.2 c.in-None.ensures.steps.0 in
     adds_as inv.4 (nothing_between f s 256 inv.3 none)

@@ -5,6 +5,7 @@ use Rattle.samples.proofs.slots.Slots.get.Goals as goal
 pub returns : goal.returns
 returns c =
     let xs = c.args.self.now in
-    let l : c.args.slot < length xs.cells = omega arith in
-    let e = at_table xs c.args.slot c.index-self-slot.result l in
+    let i = c.from.result in
+    let l : i < length xs.cells = omega arith in
+    let e = at_table xs i c.index-self-from.result l in
     search rules

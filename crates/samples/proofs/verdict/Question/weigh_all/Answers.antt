@@ -19,7 +19,7 @@ step g c =
     let t = table c.args.self.now.slots.now in
     let i = c.loop-slot.slot in
     let j = g.M.Measure.joined c.args.self.now.measure.now in
-    let r = c.args.self.now.reading.now in
+    let r = c.args.self.now.reading.values in
     let w = weights g.M.Measure.weighed g.M.Measure.joined c.args.self.now in
     let of : List ℕ → ℕ = λ vs. weight_of (g.M.Measure.weighed c.args.self.now.measure.now) j vs r in
     let h = c.loop-slot.heap in
@@ -27,7 +27,8 @@ step g c =
       | in-Some x ↦
           let x₀ = point x.in-Some.sample.now in
           let got = x.in-Some.ensures in
-          let weight : x.weight-weight.result ≡ w i = x.weight-weight.ensures.value ∙ ap of (x.values.ensures ∙ sym (values_some t i x₀ got)) in
+          let against : List ℕ → ℕ = weight_of (g.M.Measure.weighed c.args.self.now.measure.now) j x.values.result.now in
+          let weight : x.weight-weight.result ≡ w i = x.weight-weight.ensures.value ∙ ap against x.values-in-Some.ensures ∙ ap of (x.values.ensures ∙ sym (values_some t i x₀ got)) in
           let k = x.push.new.self in
           let pushed : Pushed (content h) (room h) (candidate w i) (content k) x.push.result =
           subst (λ (n : ℕ). Pushed (content h) (room h) (record { weight = n; slot = i }) (content k) x.push.result) weight x.push.ensures.cases
