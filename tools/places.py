@@ -41,9 +41,8 @@ def functions(root):
     rule = re.compile(r"^( *)(?:pub(?:\(crate\))? )?fn (\w+)(?:<[^(]*>)?\(", re.M)
     for path, _, body in sources(root, False):
         for found in rule.finditer(body):
-            end = body.find("\n" + found.group(1) + "{", found.end())
-            stop = body.find(";\n", found.end())
-            head = body[found.end() : min(x for x in (end, stop, len(body)) if x >= 0)]
+            begin = re.compile(r"\{$|;$", re.M).search(body, found.end())  # of the body, or the end of a declaration
+            head = body[found.end() : begin.start() if begin else len(body)]
             depth, at = 1, 0
             while depth and at < len(head):
                 depth += {"(": 1, ")": -1}.get(head[at], 0)

@@ -55,11 +55,11 @@ impl Builder<'_> {
         let counts = self.tally(run);
         let below = self.part(run, &lower);
         let (front, back) = run.split_at_mut(below);
-        // A node's number fits, as the check proves: a `try_from` would give an error that cannot come.
         let at = self.push(k, counts);
         self.build_box(front, lower);
         let second = self.nodes.len();
         self.build_box(back, upper);
+        // A node's number fits, as the check proves: a `try_from` would give an error that cannot come.
         self.nodes[at].kind = Kind::Split {
             lower: at as u16 + 1,
             upper: second as u16,
@@ -79,6 +79,7 @@ impl Builder<'_> {
         let at = self.push(k, counts);
         self.build_box(run, inner);
         let rim = self.push(k, [0; CODES]);
+        // The numbers fit, as above.
         self.nodes[at].kind = Kind::Shrink {
             core: at as u16 + 1,
             rim: rim as u16,

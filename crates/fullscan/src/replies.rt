@@ -38,7 +38,8 @@ pub fn reply<M: Measure>(
     }
 }
 
-// The exact verdict, if the ratio can be asked for.
+// The exact verdict, if the ratio can be asked for. Measure and slots come as `reply` has them: a struct of the two would be
+// made only to be taken apart.
 fn judge<M: Measure>(measure: &M, slots: &Slots, query: &Query) -> Result<Answer, Refusal>
     ensures { result ≡ judged (M.weighed measure.now) (M.joined measure.now) (table slots.now) query.now }
 {

@@ -6,8 +6,8 @@ ghost use Rattle.std.specs.Prelude.{◌≤◌, length};
 mod calls;
 mod sift;
 
-// The first `len` places of the slice hold the items; none comes before the one above it. The slice is lent whole, so
-// how many of its places are taken stands beside it.
+// The first `len` places of the slice hold the items; none comes before the one above it. The caller lends the room, since
+// nothing here allocates: so how many places are taken stands beside the slice.
 #[derive(Drop)]
 pub struct Heap<'a, T> {
     items: &'a mut [T],

@@ -49,7 +49,7 @@ impl Reading {
 }
 
 impl Sample {
-    // A sample of this fibre and these values, if all are in range.
+    // A sample of this fibre and these values, if all are in range: numbers that may be out of it are what is refused.
     pub fn new(fibre: u16, values: &[u16; BANDS]) -> Result<Sample, Refusal>
         ensures test { is_ok result ≡ (nat_lt fibre 8 && below 1024 values.now) }
         ensures value { MatchResult result (λ x. (x.fibre ≡ fibre) × (x.reading.values ≡ values.now)) (λ e. e ≡ OutOfRange) }

@@ -20,7 +20,8 @@ pub const MIN_K: u16 = 1;
 
 pub const MAX_K: u16 = 32;
 
-// The most common fibre among the k nearest samples, by its code; the lowest code where several are as common.
+// The most common fibre among the k nearest samples, by its code, as answers print it; the lowest code where several are as
+// common. Measure, samples and reading come one by one, since the reading is checked here before a question can hold it.
 pub fn exact_verdict<M: Measure>(
     measure: &M,
     slots: &Slots,
@@ -54,7 +55,8 @@ struct Question<'a, M> {
 }
 
 impl<M: Measure> Question<'_, M> {
-    // How many of the k nearest samples have each fibre.
+    // How many of the k nearest samples have each fibre. A run of slots is tallied where a tree is drawn: the two have one
+    // statement in common.
     fn nearest_votes(&self, k: u16) -> [u16; CODES]
         requires { k ≤ samples (table self.now.slots.now) }
         ensures { (f : ℕ) → f < 8 → slice_index result f ≡ votes_on M.weighed M.joined self.now k f }
@@ -71,8 +73,8 @@ impl<M: Measure> Question<'_, M> {
         votes
     }
 
-    // Weighs each sample and puts it into the heap. Slot by slot: an iterator over the samples held makes a verdict a
-    // seventh slower.
+    // Weighs each sample and puts it into the heap. Slot by slot: an iterator that kept its place by hand made a verdict 16
+    // in a hundred slower, and the one of `Slots` looks each slot up once more.
     fn weigh_all(&self, heap: &mut Heap<'_, Candidate>)
         requires empty { content heap.old ≡ [] }
         requires room { 256 ≤ room heap.old }

@@ -5,7 +5,7 @@ ghost use Rattle.script.specs.Commands.{admitted, asked, command_of, measure_of}
 use crate::words::{letter_and_words, numbers};
 use crate::{Command, MeasureKind, Query, Unreadable};
 
-// The measure that the first line of a script names.
+// The measure that the first line of a script names: one letter, with one number.
 pub fn parse_measure(line: &[u8]) -> Result<MeasureKind, Unreadable>
     ensures { result ≡ measure_of line.now }
 {
@@ -19,7 +19,7 @@ pub fn parse_measure(line: &[u8]) -> Result<MeasureKind, Unreadable>
     }
 }
 
-// What a later line says: one case for each letter, which reads its own words.
+// What a later line says. One match: each letter has other words and another command, so that a table would be no plainer.
 pub fn parse_command(line: &[u8]) -> Result<Command, Unreadable>
     ensures { result ≡ command_of line.now }
 {
@@ -39,7 +39,8 @@ pub fn parse_command(line: &[u8]) -> Result<Command, Unreadable>
     }
 }
 
-// A slot, a fibre and the eight values of a sample. Each is named, since a pattern `values @ ..` of an array gets no proof.
+// A slot, a fibre and the eight values of a sample. Each is named: a pattern `values @ ..` of an
+// array was tried, and no proof of it could be made.
 fn admit(numbers: [u16; 10]) -> Command
     ensures { result ≡ admitted numbers }
 {

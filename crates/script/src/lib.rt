@@ -96,7 +96,8 @@ impl<'a> Script<'a> {
         Ok((measure, script))
     }
 
-    // The bytes of the next line, without its line feed. By its length, since the contract speaks of what is left behind it.
+    // The bytes of the next line, without its line feed. By its length: `split` is no plainer, since what is left behind the
+    // line feed is to be kept too.
     fn take_line(&mut self) -> Option<&'a [u8]>
         ensures { FirstLine self.old result self.new }
     {

@@ -57,7 +57,8 @@ impl Field {
         leaf_of(self.nodes(), values)
     }
 
-    // Puts a sample into an empty slot and counts it along its path. No box changes.
+    // Puts a sample into an empty slot and counts it along its path. No box changes. It is told by numbers that may be out of
+    // range: that is what is refused.
     pub fn admit(&mut self, slot: u16, fibre: u16, values: &[u16; BANDS]) -> Result<(), Refusal>
         ensures samples { (holds self.new, result) ≡ admit_rule (holds self.old) slot fibre values.now }
         ensures tree { Recounts raised fibre (entries values.now) self.old self.new result }

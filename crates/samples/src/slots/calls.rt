@@ -50,7 +50,7 @@ impl Slots {
         Ok(())
     }
 
-    // Empties a slot that holds a sample. Tested and then written, since no proof is made where `take` says both at once.
+    // Empties a slot that holds a sample. Tested and then written: `take` was tried, and no proof of it could be made.
     pub fn withdraw(&mut self, slot: u16) -> Result<(), Refusal>
         ensures { (table self.new, result) ≡ withdraw_rule (table self.old) slot }
     {
