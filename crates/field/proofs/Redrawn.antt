@@ -25,7 +25,7 @@ module _ (xs : Slots) (ns : List Node) (m : ℕ) (e : m ≡ size (rebuilt (held_
       ap (λ k. right k (node_at ns) (counts_at ns) (samples_of (table xs))) e
       ∙ rebuilt_right (held_in xs) (node_at ns) n (valid_samples xs) (counts_at ns) t
 
-none_held : (n s : ℕ) → held (replicate n None) s ≡ false
+pub none_held : (n s : ℕ) → held (replicate n None) s ≡ false
 none_held zero s = refl
 none_held (suc n) zero = refl
 none_held (suc n) (suc s) = none_held n s

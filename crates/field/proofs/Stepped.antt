@@ -12,7 +12,7 @@ use Rattle.boxes.specs.declared.node.Kind.TheVariants.{Leaf, Split, Shrink}
 use Rattle.boxes.specs.declared.node.Node.{Node}
 
 -- node x, as the code read it
-read : (ns : List Node) (x : ℕ) (n : Node) → x < length ns → node_at ns x ≡ node_of (get_or ns x n)
+pub read : (ns : List Node) (x : ℕ) (n : Node) → x < length ns → node_at ns x ≡ node_of (get_or ns x n)
 read ns x n l = ap node_of (get_or_default ns x blank n l)
 
 -- the code's test says that a kind is not the leaf's

@@ -2,10 +2,12 @@
 #![tactic(auto)]
 
 mod examples;
+mod flaws;
 mod path;
 mod state;
 #[cfg(test)]
 mod tests;
 
 pub use examples::examples_hold;
+pub use flaws::Flaw;
 pub use state::Field;

@@ -1,16 +1,10 @@
 -- What a cursor wrote, piece by piece. Assumes nothing.
-use Rattle.std.proofs.Common.{◌≡◌, ℕ, zero, suc, ◌+◌, ◌/◌, ◌%◌, ◌<◌, ◌≤◌, false, cond, List, [], ◌∷◌, ◌++◌, length, drop, sym, refl, ap, ◌∙◌, ⊎_elim, arith, length-append}
-use Rattle.std.proofs.lemmas.Bool.{cases_eq}
-use Rattle.std.proofs.lemmas.List.{append-nil}
-use Rattle.samples.specs.Slots.{held}
-use Rattle.field.specs.Fields.{holds}
-use Rattle.field.specs.declared.state.Field.{Field}
+use Rattle.std.proofs.Common.{◌≡◌, ℕ, ◌+◌, ◌/◌, ◌%◌, ◌<◌, List, [], ◌∷◌, ◌++◌, length, drop, refl, ap, ◌∙◌, arith, length-append}
 use Rattle.std.specs.Int.{w16, w32, to_le_bytes}
-use Rattle.fieldfile.specs.Bytes.{put, pieces, le2, le4}
+use Rattle.records.specs.Bytes.{put, pieces, le2, le4}
 use Rattle.fieldfile.specs.Cursors.{Adds}
-use Rattle.fieldfile.specs.Format.{sample_bytes, samples_bytes}
 use Rattle.fieldfile.specs.declared.cursor.Cursor.{Cursor}
-use Rattle.fieldfile.proofs.Putting.{put_none, put_front, put_put, pieces_none, pieces_more}
+use Rattle.records.proofs.Putting.{put_none, put_front, put_put, pieces_none, pieces_more}
 
 -- the same bytes, told otherwise
 pub adds_as : {a b : Cursor} {xs ys : List ℕ} → Adds a b xs → xs ≡ ys → Adds a b ys
@@ -59,16 +53,3 @@ adds_piece {a} {b} {c} f n first then' = let all = adds_then first then' in rw (
 -- all that was written from the front of the buffer xs
 pub adds_front : {a b : Cursor} {xs bs : List ℕ} → a.out.now ≡ xs → a.at ≡ 0 → Adds a b bs → b.out.now ≡ bs ++ drop (length bs) xs
 adds_front {a} {b} {xs} {bs} same front adds = adds.bytes ∙ (λ i. put (same i) (front i) bs) ∙ put_front xs bs
-
--- slots that hold nothing add no bytes
-pub nothing_between : (f : Field) (s i : ℕ) → s ≤ i → ((k : ℕ) → s ≤ k → k < i → held (holds f) k ≡ false) → samples_bytes f s ≡ samples_bytes f i
-unfolding pieces
-nothing_between f s zero le none = let e : s ≡ zero = omega arith in ap (samples_bytes f) e
-nothing_between f s (suc i) le none =
-    ⊎_elim (λ (e : s ≡ suc i). ap (samples_bytes f) e)
-    (λ ne.
-    let before = nothing_between f s i (omega arith) (λ k a b. none k a (omega arith)) in
-    let empty = none i (omega arith) (omega arith) in
-    let last : cond (held (holds f) i) (sample_bytes f i) [] ≡ [] = ap (λ b. cond b (sample_bytes f i) []) empty in
-    before ∙ sym (append-nil (samples_bytes f i)) ∙ ap (λ l. samples_bytes f i ++ l) (sym last))
-    (cases_eq s (suc i))

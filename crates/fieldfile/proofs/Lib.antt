@@ -1,3 +1,9 @@
 pub mod Adding
-pub mod Lengths
-pub mod Putting
+pub mod Admitted
+pub mod Bodied
+pub mod Compared
+pub mod Faulted
+pub mod Fielded
+pub mod Noded
+pub mod Returned
+pub mod Taken

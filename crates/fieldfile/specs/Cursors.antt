@@ -2,7 +2,7 @@
 --   left w                 how many bytes are free behind those that are written
 --   Adds before after bs   the bytes bs were written behind those that stood there, in the same buffer
 use Rattle.std.specs.Prelude.{◌≡◌, ℕ, ◌+◌, ◌-◌, List, length}
-use Rattle.fieldfile.specs.Bytes.{put}
+use Rattle.records.specs.Bytes.{put}
 use Rattle.fieldfile.specs.declared.cursor.Cursor.{Cursor}
 
 abbrev pub left : Cursor → ℕ

@@ -1,7 +1,7 @@
 // A buffer that is written from its front: numbers with the low byte first.
 ghost use Rattle.std.specs.Prelude.{◌≡◌, ◌≤◌, length};
 ghost use Rattle.boxes.specs.Views.{entries};
-ghost use Rattle.fieldfile.specs.Bytes.{le2, row};
+ghost use Rattle.records.specs.Bytes.{le2, row};
 
 // How many numbers stand in a row: the values of bands, or the counts of fibres.
 pub(crate) const ROW: usize = 8;

@@ -1,13 +1,15 @@
 // A field written as a file.
 ghost use Rattle.std.specs.Prelude.{◌≡◌, ◌*◌, ◌≤◌};
-ghost use Rattle.field.specs.Fields.{holds, node_count};
+ghost use Rattle.field.specs.Fields.{holds, tree, counts, node_count};
 ghost use Rattle.samples.specs.Verdict.{samples};
 ghost use Rattle.fieldfile.specs.Cursors.{left, Adds};
-ghost use Rattle.fieldfile.specs.Format.{samples_bytes, nodes_bytes, file_of, Writes};
+ghost use Rattle.records.specs.Format.{samples_bytes, nodes_bytes};
+ghost use Rattle.records.specs.Rules.{Keeps};
+ghost use Rattle.fieldfile.specs.Format.{file_of, Writes};
 
 use super::cursor::Cursor;
 use super::outline::Outline;
-use super::records::{NODE_BYTES, SAMPLE_BYTES, TRAILER_BYTES};
+use super::writing::{NODE_BYTES, SAMPLE_BYTES, TRAILER_BYTES};
 use drawing::MAX_NODES;
 use field::Field;
 use samples::{Refusal, SLOTS};
@@ -17,7 +19,8 @@ pub const MAX_FILE: usize = SAMPLE_BYTES * SLOTS + NODE_BYTES * MAX_NODES + TRAI
 
 // Writes the file of a field to the front of a buffer and says how long it is.
 pub fn write(field: &Field, out: &mut [u8]) -> Result<usize, Refusal>
-    ensures { Writes (file_of field.now) out.old out.new result }
+    ensures bytes { Writes (file_of field.now) out.old out.new result }
+    ensures rules { Keeps (file_of field.now) }
 {
     let outline = Outline::of(field);
     let len = outline.file_len();
@@ -48,7 +51,7 @@ impl Cursor<'_> {
     // The sample records, in rising slot order.
     fn put_samples(&mut self, field: &Field)
         requires { 20 * samples (holds field.now) ≤ left self.old }
-        ensures { Adds self.old self.new (samples_bytes field.now 256) }
+        ensures { Adds self.old self.new (samples_bytes (holds field.now) (node_count field.now) (tree field.now) 256) }
     {
         for (slot, sample) in field.slots().iter() {
             let leaf = field.leaf_of(sample.values());
@@ -59,7 +62,7 @@ impl Cursor<'_> {
     // The node records, in number order.
     fn put_nodes(&mut self, field: &Field)
         requires { 38 * node_count field.now ≤ left self.old }
-        ensures { Adds self.old self.new (nodes_bytes field.now (node_count field.now)) }
+        ensures { Adds self.old self.new (nodes_bytes (tree field.now) (counts field.now) (node_count field.now)) }
     {
         for node in field.nodes() {
             self.put_node(node);

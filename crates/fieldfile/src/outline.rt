@@ -1,20 +1,15 @@
 // The end of a file: how many records its trailer says there are, and the first two checks.
-ghost use Rattle.std.specs.Prelude.{◌≡◌, ◌+◌, ◌*◌, ◌≤◌, cond, length, take, drop};
+ghost use Rattle.std.specs.Prelude.{◌≡◌, ◌+◌, ◌*◌, cond, drop};
 ghost use Rattle.std.specs.Option.{option_map};
-ghost use Rattle.fieldfile.specs.Outlines.{end, marked, agreed, outline_rule};
+ghost use Rattle.records.specs.Checks.{marked, agreed};
+ghost use Rattle.records.specs.Readings.{end};
+ghost use Rattle.fieldfile.specs.Outlines.{outline_rule};
 
-use super::records::{MARK, NODE_BYTES, SAMPLE_BYTES, TRAILER_BYTES};
+use super::faults::Check;
+use super::numbers::bytes_at;
+use super::writing::{MARK, NODE_BYTES, SAMPLE_BYTES, TRAILER_BYTES};
 use drawing::MAX_NODES;
 use samples::SLOTS;
-
-// What is wrong with a file, by the number of the check that it fails, as the format numbers them.
-#[derive(Clone, Copy, PartialEq, Eq, Debug)]
-pub enum Check {
-    // Under 14 bytes, or no mark at the end.
-    Mark = 1,
-    // A count out of range, a wrong way back, or a wrong length.
-    Layout = 2,
-}
 
 // How many records of samples and of nodes a file says it has.
 #[derive(Clone, Copy, PartialEq, Eq, Debug)]
@@ -47,7 +42,7 @@ impl Outline {
 
     // Whether the counts are in range and fit these ways back and this length.
     fn agrees(self, to_nodes: u32, to_samples: u32, len: usize) -> bool
-        ensures { result ≡ agreed self to_nodes to_samples len }
+        ensures { result ≡ agreed self.samples self.nodes to_nodes to_samples len }
     {
         usize::from(self.samples) <= SLOTS
             && (1..=MAX_NODES).contains(&usize::from(self.nodes))
@@ -80,12 +75,4 @@ fn trailer_of(file: &[u8]) -> Option<&[u8; TRAILER_BYTES]>
 {
     let trailer = file.last_chunk()?;
     trailer.ends_with(&MARK).then_some(trailer)
-}
-
-// The N bytes from `at` on.
-fn bytes_at<const N: usize>(bytes: &[u8], at: usize) -> [u8; N]
-    requires { at + N ≤ length bytes.now }
-    ensures { result ≡ take N (drop at bytes.now) }
-{
-    *bytes[at..].first_chunk().unwrap()
 }

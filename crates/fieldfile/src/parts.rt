@@ -4,7 +4,7 @@ ghost use Rattle.std.specs.Option.{option_map};
 ghost use Rattle.fieldfile.specs.Parts.{part_of, part_at};
 
 use super::outline::Outline;
-use super::records::{NODE_BYTES, SAMPLE_BYTES, TRAILER_BYTES};
+use super::writing::{NODE_BYTES, SAMPLE_BYTES, TRAILER_BYTES};
 
 #[derive(Clone, Copy)]
 pub enum Record<'a> {

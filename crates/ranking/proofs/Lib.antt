@@ -1,4 +1,5 @@
 pub mod Counted
+pub mod Found
 pub mod Keyed
 pub mod Leading
 pub mod Picked

@@ -1,3 +1,4 @@
 pub mod Counts
+pub mod Lowest
 pub mod Majority
 pub mod Ranks

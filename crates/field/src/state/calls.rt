@@ -1,18 +1,23 @@
 // What a field can be asked and told.
-ghost use Rattle.std.specs.Prelude.{◌≡◌, ℕ, ◌-◌, length, replicate, None};
-ghost use Rattle.boxes.specs.Views.{entries};
+ghost use Rattle.std.specs.Prelude.{◌≡◌, ℕ, ◌-◌, ◌<◌, length, replicate, None, is_ok, MatchResult};
+ghost use Rattle.arrayvec.specs.ArrayVec.{array_vec_len};
+ghost use Rattle.boxes.specs.Views.{entries, node_at, counts_at};
 ghost use Rattle.std.specs.Option.{option_map};
 ghost use Rattle.samples.specs.Slots.{at, point, fibre_at, values_at, admit_rule, withdraw_rule};
+ghost use Rattle.trees.specs.Lawful.{lawful};
 ghost use Rattle.trees.specs.Samples.{raised, lowered};
 ghost use Rattle.trees.specs.Trees.{reached};
 ghost use Rattle.field.specs.Fields.{holds, node_count, tree, Bare, Drawn, Recounts};
+ghost use Rattle.field.specs.Flaws.{flaw, Planted};
 
 use super::Field;
+use crate::flaws::{Flaw, flaw_of};
 use crate::path::{leaf_of, recount};
 use arrayvec::ArrayVec;
 use boxes::Node;
-use drawing::draw;
+use drawing::{MAX_NODES, draw};
 use measure::BANDS;
+use ranking::CODES;
 use samples::{Refusal, Sample, Slots};
 
 impl Field {
@@ -25,6 +30,21 @@ impl Field {
         let mut nodes = ArrayVec::new();
         draw(&slots, &mut nodes);
         Field { slots, nodes }
+    }
+
+    // A field that holds nothing and whose tree has these nodes, if they keep the rules of a tree. What they count is not read.
+    pub fn with_tree(mut nodes: ArrayVec<Node, MAX_NODES>) -> Result<Field, Flaw>
+        ensures test { is_ok result ≡ lawful (array_vec_len nodes) (node_at nodes.items) }
+        ensures value { MatchResult result (Planted nodes.items) (λ e. flaw (array_vec_len nodes) (node_at nodes.items) ≡ Some e) }
+    {
+        if let Some(flaw) = flaw_of(nodes.as_slice()) {
+            return Err(flaw);
+        }
+        clear(nodes.as_mut_slice());
+        Ok(Field {
+            slots: Slots::new(),
+            nodes,
+        })
     }
 
     // Draws the tree over the samples held.
@@ -90,6 +110,16 @@ impl Field {
     {
         let slot = u8::try_from(slot).ok()?;
         self.slots.get(slot).copied()
+    }
+}
+
+// Counts no sample at any node.
+fn clear(nodes: &mut [Node])
+    ensures shape { (x : ℕ) → node_at nodes.new x ≡ node_at nodes.old x }
+    ensures counts { (x g : ℕ) → x < length nodes.old → g < 8 → counts_at nodes.new x g ≡ 0 }
+{
+    for node in nodes {
+        node.counts = [0; CODES];
     }
 }
 

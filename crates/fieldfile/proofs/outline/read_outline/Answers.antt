@@ -4,10 +4,13 @@ use Rattle.std.specs.Int.{w16, w32, from_le_bytes}
 use Rattle.std.specs.Bool.{then_some}
 use Rattle.std.specs.Option.{option_map, ok_or}
 use denote.Bor.{Bor}
-use Rattle.fieldfile.specs.declared.outline.Check.{Check}
-use Rattle.fieldfile.specs.declared.outline.Check.TheVariants.{Layout}
+use Rattle.fieldfile.specs.declared.faults.Check.{Check}
+use Rattle.fieldfile.specs.declared.faults.Check.TheVariants.{Layout}
 use Rattle.fieldfile.specs.declared.outline.Outline.{Outline}
-use Rattle.fieldfile.specs.Outlines.{two, four, end, agreed, outline_of, laid_out}
+use Rattle.records.specs.Bytes.{two, four}
+use Rattle.records.specs.Checks.{agreed, laid_out}
+use Rattle.records.specs.Readings.{end}
+use Rattle.fieldfile.specs.Outlines.{outline_of}
 use Rattle.fieldfile.proofs.outline.read_outline.Goals as goal
 
 -- the numbers that were read from a trailer
@@ -37,7 +40,7 @@ returns c =
     let a = four_said bs _ said.1 4 _ _ c.bytes_at-3.ensures c.from_le_bytes-to_nodes.ensures in
     let b = four_said bs _ said.1 8 _ _ c.bytes_at-4.ensures c.from_le_bytes-to_samples.ensures in
     let o : record { samples = c.from_le_bytes.result; nodes = c.from_le_bytes-2.result } ≡ outline_of bs = λ i. record { samples = n i; nodes = m i } in
-    let test : c.agrees.result ≡ laid_out bs = c.agrees.ensures ∙ λ i. agreed (o i) (a i) (b i) (length bs) in
+    let test : c.agrees.result ≡ laid_out bs = c.agrees.ensures ∙ λ i. agreed (n i) (m i) (a i) (b i) (length bs) in
     rw said.0
     (c.ok_or-2.ensures.value
     ∙ (λ i. ok_or {E = Check} (c.then_some.ensures i) Layout) ∙ (λ i. ok_or {E = Check} (then_some (test i) (o i)) Layout)

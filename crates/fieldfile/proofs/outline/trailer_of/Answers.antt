@@ -5,7 +5,8 @@ use Rattle.std.proofs.lemmas.List.{get_or-drop}
 use Rattle.std.specs.Bool.{then_some}
 use Rattle.std.specs.List.{ends_with}
 use Rattle.std.specs.Option.{option_map}
-use Rattle.fieldfile.specs.Outlines.{marked, end}
+use Rattle.records.specs.Checks.{marked}
+use Rattle.records.specs.Readings.{end}
 use Rattle.fieldfile.proofs.outline.trailer_of.Goals as goal
 
 last_two : (xs : List ℕ) (n : ℕ) → length xs ≡ n + 2 → drop n xs ≡ slice_index xs n ∷ slice_index xs (n + 1) ∷ []

@@ -1,7 +1,7 @@
 use Rattle.std.proofs.Common.{◌≡◌, ◌+◌, ◌-◌, length, refl, arith}
 use Rattle.std.proofs.lemmas.List.{drop-drop}
-use Rattle.fieldfile.specs.Bytes.{put}
-use Rattle.fieldfile.proofs.Putting.{length_put}
+use Rattle.records.specs.Bytes.{put}
+use Rattle.records.proofs.Putting.{length_put}
 use Rattle.fieldfile.proofs.cursor.Cursor.put.Goals as goal
 
 pub returns : goal.returns

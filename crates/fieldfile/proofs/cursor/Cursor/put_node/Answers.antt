@@ -1,8 +1,8 @@
 use Rattle.std.proofs.Common.{◌≡◌, ◌∙◌, unwrap_or, ap, arith}
 use Rattle.boxes.specs.Views.{entries, links_of}
-use Rattle.fieldfile.specs.Format.{node_record}
+use Rattle.records.specs.Format.{node_record}
 use Rattle.fieldfile.proofs.Adding.{adds_then}
-use Rattle.fieldfile.proofs.Putting.{length_row}
+use Rattle.records.proofs.Putting.{length_row}
 use Rattle.fieldfile.proofs.cursor.Cursor.put_node.Goals as goal
 
 pub put_row-requires-2 : goal.put_row-requires-2

@@ -1,7 +1,7 @@
 use Rattle.std.proofs.Common.{get_or, refl, arith}
-use Rattle.fieldfile.specs.Bytes.{le2}
+use Rattle.records.specs.Bytes.{le2}
 use Rattle.fieldfile.proofs.Adding.{adds_no_pieces, adds_piece}
-use Rattle.fieldfile.proofs.Putting.{length_pieces}
+use Rattle.records.proofs.Putting.{length_pieces}
 use Rattle.fieldfile.proofs.cursor.Cursor.put_row.Goals as goal
 
 pub loop-number-init : goal.loop-number-init

@@ -1,5 +1,5 @@
 use Rattle.std.proofs.Common.{get_or}
-use Rattle.fieldfile.specs.Bytes.{pieces, le2}
+use Rattle.records.specs.Bytes.{pieces, le2}
 use Rattle.fieldfile.specs.Cursors.{Adds}
 use Rattle.fieldfile.proofs.cursor.Cursor.put_row.Given as goal
 

@@ -1,4 +1,4 @@
-use Rattle.fieldfile.specs.Format.{sample_record}
+use Rattle.records.specs.Format.{sample_record}
 use Rattle.fieldfile.proofs.Adding.{adds_then}
 use Rattle.fieldfile.proofs.cursor.Cursor.put_sample.Goals as goal
 

@@ -1,5 +1,5 @@
 use Rattle.std.proofs.Common.{arith}
-use Rattle.fieldfile.specs.Format.{trailer_bytes}
+use Rattle.records.specs.Format.{trailer_bytes}
 use Rattle.fieldfile.proofs.Adding.{adds_le4, adds_then}
 use Rattle.fieldfile.proofs.cursor.Cursor.put_trailer.Goals as goal
 

@@ -1,7 +1,7 @@
 -- What is written piece by piece. Assumes nothing.
 use Rattle.std.proofs.Common.{◌≡◌, ℕ, zero, suc, ◌+◌, ◌*◌, ◌≤◌, List, [], ◌++◌, length, take, drop, sym, refl, ap, ◌∙◌, append_assoc, add-zero, mul-zero, zero-add, mul-suc, add-one, arith, length-append, length-drop, take-append-drop, length-take}
 use Rattle.std.proofs.lemmas.List.{take_at, drop_at, drop-drop, length-take-le}
-use Rattle.fieldfile.specs.Bytes.{put, pieces, le2, row}
+use Rattle.records.specs.Bytes.{put, pieces, le2, row}
 
 pub put_none : (xs : List ℕ) (at : ℕ) → xs ≡ put xs at []
 unfolding put

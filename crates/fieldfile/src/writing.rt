@@ -2,7 +2,7 @@
 ghost use Rattle.std.specs.Prelude.{◌≡◌, ◌≤◌};
 ghost use Rattle.boxes.specs.Views.{entries, kind_of, node_of};
 ghost use Rattle.fieldfile.specs.Cursors.{left, Adds};
-ghost use Rattle.fieldfile.specs.Format.{kind_code, sample_record, node_record, trailer_bytes};
+ghost use Rattle.records.specs.Format.{kind_code, sample_record, node_record, trailer_bytes};
 
 use super::cursor::Cursor;
 use super::outline::Outline;

@@ -1,0 +1,17 @@
+pub mod Chunked
+pub mod Describing
+pub mod Filed
+pub mod Filing
+pub mod Kept
+pub mod Lengths
+pub mod Likened
+pub mod Links
+pub mod Loaded
+pub mod Ordinal
+pub mod Passed
+pub mod Putting
+pub mod Reread
+pub mod Rewriting
+pub mod Rewritten
+pub mod Slotted
+pub mod Tested
