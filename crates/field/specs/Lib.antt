@@ -1,4 +1,3 @@
-pub mod Examples
 pub mod Fields
 pub mod Flaws
 pub mod Paths

@@ -1,13 +1,11 @@
 // A field: the samples held and the tree of boxes drawn round them.
 #![tactic(auto)]
 
-mod examples;
 mod flaws;
 mod path;
 mod state;
 #[cfg(test)]
 mod tests;
 
-pub use examples::examples_hold;
 pub use flaws::Flaw;
 pub use state::Field;

@@ -1,6 +1,8 @@
-// Trees over samples, with the nodes that the reference in oracle/ draws.
-use super::Field;
-use boxes::{Kind, Node};
+// Trees over samples, with the nodes that the reference in oracle/ draws; and trees that are told.
+use super::{Field, Flaw};
+use arrayvec::ArrayVec;
+use boxes::{Bounds, Kind, Node};
+use drawing::MAX_NODES;
 use samples::Refusal;
 use std::array;
 use std::process::Abort;
@@ -131,5 +133,38 @@ fn refusals_change_nothing(rt: HostRuntime) -> Result<(), Fail> {
     assert_eq!(rt; field.slots().count(), 5);
     assert_eq!(rt; node(&rt, &field, 0).counts, [0, 2, 2, 1, 0, 0, 0, 0]);
     assert_eq!(rt; field.admit(255, 7, &[1023; 8]), Ok(()));
+    Ok(())
+}
+
+// A field's nodes, with node 1 changed.
+fn told(field: &Field, kind: Kind, bounds: Option<Bounds>) -> ArrayVec<Node, MAX_NODES> {
+    let mut nodes = ArrayVec::new();
+    for (number, node) in field.nodes().iter().enumerate() {
+        let mut node = *node;
+        if number == 1 {
+            node.kind = kind;
+            node.bounds = bounds.unwrap_or(node.bounds);
+        }
+        if !nodes.is_full() {
+            nodes.push(node);
+        }
+    }
+    nodes
+}
+
+#[test]
+fn told_trees(rt: HostRuntime) -> Result<(), Fail> {
+    let field = five()?;
+    let mut same = Field::with_tree(told(&field, Kind::Leaf, None)).ok().unwrap_or_default();
+    assert_eq!(rt; same.nodes().len(), 3);
+    assert_eq!(rt; node(&rt, &same, 0).counts, [0; 8]);
+    same.admit(9, 6, &[700, 0, 0, 0, 0, 0, 0, 0])?;
+    assert_eq!(rt; node(&rt, &same, 2).counts, [0, 0, 0, 0, 0, 0, 1, 0]);
+    assert_eq!(rt; Field::with_tree(ArrayVec::new()).err(), Some(Flaw::Root));
+    // Node 2 is then the child of nodes 0 and 1, and node 1 has it for both its children.
+    let twice = Kind::Split { lower: 2, upper: 2 };
+    assert_eq!(rt; Field::with_tree(told(&field, twice, None)).err(), Some(Flaw::Links(1)));
+    let everything = Some(Bounds::everything());
+    assert_eq!(rt; Field::with_tree(told(&field, Kind::Leaf, everything)).err(), Some(Flaw::Boxes(0)));
     Ok(())
 }

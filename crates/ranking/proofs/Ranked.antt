@@ -41,6 +41,14 @@ module _ (lt : ℕ → ℕ → Bool) (o : Strict lt) where
     rank_le : (s t : ℕ) → lt s t ≡ true → rank p lt n s ≤ rank p lt n t
     rank_le s t a = count_imp _ _ n (λ u l h. let k = o.through u s t in grind arith)
 
+    -- only the first k come before one of them
+    pub first_rank : (k s : ℕ) → first p lt n k s ≡ true → rank (first p lt n k) lt n s ≡ rank p lt n s
+    first_rank k s h = count_ext _ _ n (λ t l. let r = rank_le t s in grind (arith, nat_tests))
+
+    -- a slot does not come before itself
+    pub rank_below : (s : ℕ) → s < n → p s ≡ true → rank p lt n s < count p n
+    rank_below s l h = let i = o.self s in count_less _ _ n s (λ t m e. grind arith) l (grind arith) h
+
     rank_less : (s t : ℕ) → s < n → p s ≡ true → lt s t ≡ true → rank p lt n s < rank p lt n t
     rank_less s t l m a =
         count_less _ _ n s (λ u l' h. let k = o.through u s t in grind arith) l (let i = o.self s in grind arith) (grind arith)

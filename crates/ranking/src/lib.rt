@@ -10,7 +10,7 @@ use std::cmp::Reverse;
 pub const CODES: usize = 8;
 
 // The code with the most votes, the lowest where several have as many. A code is a number here, the index of its votes.
-pub fn most_common(votes: &[u16; CODES]) -> u8
+pub fn most_common(votes: &[u32; CODES]) -> u8
     ensures value { result ≡ leader (λ j. slice_index votes.now j) 8 }
     ensures leads { Leads (λ j. slice_index votes.now j) 8 result }
 {

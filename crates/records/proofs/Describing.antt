@@ -1,24 +1,21 @@
 -- A written file describes what was written. Assumes nothing.
-use Rattle.std.proofs.Common.{◌≡◌, ℕ, ◌<◌, true, false, List, [], length, is_some, unwrap_or, Some, None, Option, eqb, sym, refl, ap, ◌∙◌, ⊎_elim, arith}
+use Rattle.std.proofs.Common.{◌≡◌, ℕ, ◌<◌, true, false, List, [], is_some, unwrap_or, Some, None, Option, eqb, sym, refl, ap, ◌∙◌, ⊎_elim, arith}
 use Rattle.std.specs.Option.{option_map}
 use Rattle.std.proofs.lemmas.Bool.{ne_eqb, eq-eqb, both_ways, true≢false, cases_Bool}
-use Rattle.std.proofs.lemmas.List.{ext_get_or}
-use Rattle.std.proofs.lemmas.List.FromFn.{fill_by_all}
 use Rattle.ranking.specs.Counts.{count}
 use Rattle.ranking.proofs.Found.{is_lowest, none_lowest}
 use Rattle.boxes.specs.Views.{entries}
-use Rattle.samples.specs.Slots.{Point, Table, at, held, values_at}
+use Rattle.samples.specs.Slots.{Point, Table, at, held}
 use Rattle.samples.proofs.Tabled.{held_some, fibre_some, values_some}
 use Rattle.trees.specs.Trees.{Node}
 use Rattle.records.specs.Described.{SameSamples, Describes}
 use Rattle.records.specs.Format.{file}
-use Rattle.records.specs.Parts.{slot_in, values_in, point_in}
+use Rattle.records.specs.Parts.{slot_in, point_in}
 use Rattle.records.specs.Readings.{sample_total, sample_part, table_in}
-use Rattle.records.proofs.Filed.{total_filed, nodes_filed, sample_filed}
+use Rattle.records.proofs.Filed.{total_filed, nodes_filed}
 use Rattle.records.proofs.Filing.{same_tree, same_counts, slot_of, slot_filed, fibre_filed, value_filed}
 use Rattle.records.proofs.Lengths.{count_before}
-use Rattle.records.proofs.Reread.{values_written}
-use Rattle.records.proofs.Slotted.{length_upto, upto_at}
+use Rattle.records.proofs.Slotted.{upto_at}
 
 none_at : (t : Table) (s : ℕ) → held t s ≡ false → at t s ≡ None
 none_at t s h = go (at t s) h
@@ -69,18 +66,3 @@ module _ (t : Table) (m : ℕ) (node : ℕ → Node) (counts : ℕ → ℕ → �
 
   pub file_describes : Describes bytes t m node counts
   file_describes = record { samples = same_samples; size = sym (nodes_filed t m node counts); nodes = same_tree t m node counts; counts = same_counts t m node counts }
-
-  -- and a table of lists of eight is read as it was
-  pub table_again : length t ≡ 256 → ((s : ℕ) → s < 256 → held t s ≡ true → length (values_at t s) ≡ 8) → table_in bytes ≡ t
-  table_again long eight =
-      ext_get_or None (table_in bytes) t (length_upto bytes (sample_total bytes) ∙ sym long)
-      (λ s l. let k : s < 256 = omega (arith, length_upto bytes (sample_total bytes)) in again s k (at t s) refl)
-    where
-      again : (s : ℕ) → s < 256 → (o : Option Point) → at t s ≡ o → at (table_in bytes) s ≡ at t s
-      again s k None e = empty_slot s k (ap is_some e) ∙ sym e
-      again s k (Some x) e =
-          let h = held_some t s x (sym e) in
-          let r = sample_filed t m node counts s k h in
-          let fibre = fibre_filed t m node counts s k h ∙ fibre_some t s x (sym e) in
-          let vs = ap values_in r ∙ values_written _ _ _ _ ∙ sym (fill_by_all (entries (values_at t s)) (values_at t s) 8 0 (eight s k h) (λ _ _. refl)) ∙ values_some t s x (sym e) in
-          full_slot s k h ∙ (λ i. Some (record { fibre = fibre i; values = vs i })) ∙ sym e

@@ -1,8 +1,8 @@
 -- The slots that pass a test, numbered by how many pass before them. Assumes nothing.
 use Rattle.std.proofs.Common.{◌≡◌, ℕ, zero, suc, ◌+◌, ◌-◌, ◌<◌, ◌≤◌, Bool, true, false, ◌&&◌, refl, ap, ⊎_elim, arith}
-use Rattle.std.proofs.lemmas.Bool.{cases_lt, cases_order}
+use Rattle.std.proofs.lemmas.Bool.{cases_lt}
 use Rattle.ranking.specs.Counts.{bit, count}
-use Rattle.records.proofs.Lengths.{count_before, count_grows}
+use Rattle.records.proofs.Lengths.{count_grows}
 
 -- there is a slot for each number below the count
 pub slot_of_number : (h : ℕ → Bool) (k i : ℕ) → i < count h k → (s : ℕ) × (s < k) × (h s ≡ true) × (count h s ≡ i)
@@ -19,15 +19,9 @@ slot_of_number h (suc k) i l = go (slot_of_number h k i) (h k) refl
 count_le_at : (h : ℕ → Bool) (s r : ℕ) → s ≤ r → count h s ≤ count h r
 count_le_at h s r l = let g = count_grows h s (r - s) in let e : s + (r - s) ≡ r = omega arith in rw e at g
 
--- the slot with the lower number is lower, and no two have one number
+-- the slot with the lower number is lower
 pub slots_rise : (h : ℕ → Bool) (s r : ℕ) → count h s < count h r → s < r
 slots_rise h s r l = ⊎_elim (λ m. m) (λ (m : r ≤ s). absurd (omega (arith, count_le_at h r s m))) (cases_lt s r)
-
-pub one_slot : (h : ℕ → Bool) (s r : ℕ) → h s ≡ true → h r ≡ true → count h s ≡ count h r → s ≡ r
-one_slot h s r a b e =
-    ⊎_elim (λ (m : s ≡ r). m)
-    (λ o. ⊎_elim (λ (m : s < r). absurd (omega (arith, count_before h s r m a))) (λ (m : r < s). absurd (omega (arith, count_before h r s m b))) o)
-    (cases_order s r)
 
 -- what is counted of slots is counted of their numbers
 pub count_by_number : (h q r : ℕ → Bool) (k : ℕ) → ((s : ℕ) → s < k → h s ≡ true → r (count h s) ≡ q s) → count (λ s. h s && q s) k ≡ count r (count h k)

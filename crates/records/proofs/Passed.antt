@@ -1,9 +1,9 @@
 -- What the first check that fails says, and that none fails where every record passes every check. Assumes nothing.
 --   Passes ks   no record fails one of the checks
-use Rattle.std.proofs.Common.{◌≡◌, ℕ, zero, suc, ◌-◌, ◌<◌, ◌≤◌, Bool, true, false, not, List, [], ◌∷◌, Some, None, Option, unwrap_or, sym, refl, ap, ◌∙◌, arith}
+use Rattle.std.proofs.Common.{◌≡◌, ℕ, zero, suc, ◌-◌, ◌<◌, ◌≤◌, false, List, [], ◌∷◌, Some, None, Option, unwrap_or, refl, ap, ◌∙◌, arith}
 use Rattle.std.specs.Option.{option_map, option_or}
 use Rattle.ranking.specs.Lowest.{lowest}
-use Rattle.ranking.proofs.Found.{is_lowest, lowest_none, none_lowest, lowest_some}
+use Rattle.ranking.proofs.Found.{lowest_none, none_lowest, lowest_some}
 use Rattle.records.specs.Checks.{Test, test_at, checks, first_failed, first_fault, FailsFirst}
 
 abbrev pub Passes : List Test → Type 0
@@ -48,20 +48,6 @@ fails_first c (k ∷ ks) d i h = go (fails_first (suc c) ks d i) (lowest k.1 k.0
         let n : d - c ≡ 0 = omega arith in
         let l = rw at at (lowest_some k.1 k.0 j e) in
         (omega arith, rw n (record { record_at = l.0; fails = l.1; lower = l.2; before = λ f m p q. absurd (omega arith) }))
-
--- a check that no record fails, and one that a record fails
-pub check_passed : (c : ℕ) (k : Test) (ks : List Test) → lowest k.1 k.0 ≡ None → first_failed c (k ∷ ks) ≡ first_failed (suc c) ks
-check_passed c k ks h = ap (λ o. option_or (option_map (λ i. (c, i)) o) (first_failed (suc c) ks)) h
-
-pub check_failed : (c : ℕ) (k : Test) (ks : List Test) (i : ℕ) → lowest k.1 k.0 ≡ Some i → first_failed c (k ∷ ks) ≡ Some (c, i)
-check_failed c k ks i h = ap (λ o. option_or (option_map (λ i. (c, i)) o) (first_failed (suc c) ks)) h
-
--- a check of the file as one
-pub once_passed : (b : Bool) → b ≡ true → lowest (λ i. not b) 1 ≡ None
-once_passed b h = none_lowest (λ i. not b) 1 (λ i l. ap not h)
-
-pub once_failed : (b : Bool) → b ≡ false → lowest (λ i. not b) 1 ≡ Some 0
-once_failed b h = sym (is_lowest (λ i. not b) 1 (Some 0) (omega arith, ap not h, λ k l. absurd (omega arith)))
 
 -- the check and the record that are named are the lowest that fail
 pub named_first : (bs : List ℕ) (c i : ℕ) → first_fault bs ≡ Some (c, i) → (1 ≤ c) × FailsFirst (checks bs) (c - 1) i

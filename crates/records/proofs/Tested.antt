@@ -4,9 +4,9 @@ use Rattle.std.proofs.lemmas.Bool.{true≢false}
 use Rattle.std.specs.Option.{option_or}
 use Rattle.ranking.specs.Lowest.{lowest}
 use Rattle.ranking.proofs.Counted.{count_ext}
-use Rattle.trees.specs.Boxes.{side, Box, Alike, on_step, is_on_grid}
+use Rattle.trees.specs.Boxes.{side, Box, Alike}
 use Rattle.trees.specs.Drawing.{Is}
-use Rattle.trees.specs.Lawful.{alike, within, inside, whole, sound, follows, linked, is_leaf, nested, nested_by}
+use Rattle.trees.specs.Lawful.{alike, within, inside, follows, linked, is_leaf, nested, nested_by}
 use Rattle.trees.specs.Trees.{Kind, leaf, split, shrink, Node, parts, names}
 use Rattle.records.specs.Checks.{namings, named_once}
 use Rattle.records.specs.Described.{SameTree}
@@ -34,17 +34,6 @@ inside_same j k l m a b =
     (λ c h i. leb (b.1 c h i) (a.1 c h i) && leb (a.1 c h i + side (a.0 i) c) (b.1 c h i + side (b.0 i) c)) in
     λ i. ltb (b.0 i) (a.0 i) && corners i
 
-on_grid_same : (j k : Box) → Alike j k → is_on_grid j ≡ is_on_grid k
-unfolding is_on_grid
-on_grid_same j k a =
-    let corners = every_ext (λ c. on_step j.depth c (j.corner c)) (λ c. on_step k.depth c (k.corner c)) 8 (λ c h i. on_step (a.0 i) c (a.1 c h i)) in
-    λ i. leb (a.0 i) 80 && corners i
-
-whole_same : (j k : Box) → Alike j k → whole j ≡ whole k
-whole_same j k a =
-    let corners = every_ext (λ c. eqb (j.corner c) 0) (λ c. eqb (k.corner c) 0) 8 (λ c h i. eqb (a.1 c h i) 0) in
-    λ i. eqb (a.0 i) 0 && corners i
-
 nested_by_same : (t : Kind) (j k : Box) (f g s r : Node) → Alike j k → Is f g.kind g.box g.first g.second → Is s r.kind r.box r.first r.second → nested_by t j f s ≡ nested_by t k g r
 nested_by_same leaf j k f g s r a b c = refl
 nested_by_same split j k f g s r a b c =
@@ -62,14 +51,6 @@ leaf_nested split k f s e = absurd (true≢false e)
 leaf_nested shrink k f s e = absurd (true≢false e)
 
 module _ (m : ℕ) (p q : ℕ → Node) (same : SameTree m p q) (x : ℕ) (l : x < m) where
-  pub sound_same : sound p x ≡ sound q x
-  unfolding sound
-  sound_same =
-      let s = same x l in
-      let grid = on_grid_same _ _ s.1 in
-      let all = whole_same _ _ s.1 in
-      λ i. grid i && ((parts (s.0 i) || (eqb (s.2 i) 0 && eqb (s.3 i) 0)) && (ltb 0 x || all i))
-
   pub linked_same : linked m p x ≡ linked m q x
   unfolding linked names
   linked_same =

@@ -1,16 +1,16 @@
 -- The eight checks of a file, each as a test of one record after another. Assumes nothing.
---   marked bs           there are 14 bytes at least, and the last two are the mark
---   agreed n m ..       the counts n and m are in range and fit these ways back and this length
---   laid_out bs         the trailer's numbers are in range and fit one another and the length
---   bad_sample bs i     sample record i has a fibre or a value out of range, or a slot not above that of the record before
---   bad_node bs x       node record x by itself: its kind, depth and corner, no child of a leaf; node 0 is the box of all readings
---   namings m p x       how many of the child numbers of m nodes are x: a parent with x for both children names it twice
---   bad_links, bad_boxes  the links of node x, and the boxes of its children with the kind of a rim
---   bad_leaf bs i       sample record i names another leaf than the one in which its values belong
---   bad_counts bs x     the counts of node x are not those of the samples
---   Test, checks bs     of how many records a check is, and which records fail it; the eight checks
---   first_fault bs      the lowest check that a record fails, and the lowest such record
---   FailsFirst ks c i   check c of the list, from 0, is the first that a record fails, and i is the lowest such record
+--   marked bs              there are 14 bytes at least, and the last two are the mark
+--   agreed n m ..          the counts n and m are in range and fit these ways back and this length
+--   laid_out bs            the trailer's numbers are in range and fit one another and the length
+--   bad_sample bs i        sample record i has a fibre or a value out of range, or a slot not above that of the record before
+--   bad_node bs x          node record x by itself: its kind, depth and corner, no child of a leaf; node 0 is the box of all readings
+--   namings m p x          how many of the child numbers of m nodes are x: a parent with x for both children names it twice
+--   bad_links, bad_boxes   the links of node x, and the boxes of its children with the kind of a rim
+--   bad_leaf bs i          sample record i names another leaf than the one in which its values belong
+--   bad_counts bs x        the counts of node x are not those of the samples
+--   Test, checks bs        of how many records a check is, and which records fail it; the eight checks
+--   first_fault bs         the lowest check that a record fails, and the lowest such record
+--   FailsFirst ks c i      check c of the list, from 0, is the first that a record fails, and i is the lowest such record
 use Rattle.std.specs.Prelude.{◌≡◌, ℕ, suc, ◌+◌, ◌-◌, ◌*◌, ◌<◌, Bool, true, false, not, ◌&&◌, ◌||◌, List, [], ◌∷◌, length, None, Option, ◌==◌, nat_le, nat_lt, slice_index, slice_index_or}
 use Rattle.std.specs.Option.{option_map, option_or}
 use Rattle.ranking.specs.Counts.{count}

@@ -1,9 +1,9 @@
 -- The samples and the tree that a file describes. Assumes nothing.
---   SameSamples t u                the slots of two tables hold the same samples: fibre and values, band by band
---   SameTree m p q                 m nodes are the same: kind, box and child numbers
---   SameCounts m c d               m nodes have the same counts
---   Describes bs t m p c           the file says these samples, and this tree with these counts
---   IsField t m p c                samples in range, and a tree that keeps the rules, with right counts, as a field has them
+--   SameSamples t u        the slots of two tables hold the same samples: fibre and values, band by band
+--   SameTree m p q         m nodes are the same: kind, box and child numbers
+--   SameCounts m c d       m nodes have the same counts
+--   Describes bs t m p c   the file says these samples, and this tree with these counts
+--   IsField t m p c        samples in range, and a tree that keeps the rules, with right counts, as a field has them
 use Rattle.std.specs.Prelude.{◌≡◌, ℕ, ◌<◌, ◌≤◌, List}
 use Rattle.boxes.specs.Views.{entries}
 use Rattle.drawing.specs.Held.{samples_of}

@@ -1,10 +1,10 @@
 -- What stands in a record, by its place in the record's bytes. Assumes nothing.
---   slot_in r, fibre_in r   of a sample record: its slot and its fibre code,
---   leaf_in r               the number of the leaf in which the sample belongs,
+--   slot_in r, fibre_in r     of a sample record: its slot and its fibre code,
+--   leaf_in r                 the number of the leaf in which the sample belongs,
 --   values_in r, point_in r   its eight values, and the sample itself
---   code_in r, coded c      of a node record: the byte of its kind, and the kind with the code c,
---   node_in r               the node, with its box and its child numbers,
---   tally_in r              how many samples of each fibre it counts
+--   code_in r, coded c        of a node record: the byte of its kind, and the kind with the code c,
+--   node_in r                 the node, with its box and its child numbers,
+--   tally_in r                how many samples of each fibre it counts
 use Rattle.std.specs.Prelude.{ℕ, cond, List, slice_index, ◌==◌}
 use Rattle.samples.specs.Slots.{Point}
 use Rattle.trees.specs.Trees.{Kind, leaf, split, shrink, Node}

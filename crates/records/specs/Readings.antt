@@ -1,12 +1,12 @@
 -- What the bytes of a file say: its trailer, its records by number, and the samples and the tree that they describe. Assumes nothing.
---   end bs                          where the last 14 bytes begin, the trailer
---   sample_total bs, node_total bs  how many records of samples and of nodes the trailer says there are
---   sample_part bs i                the bytes of sample record i
---   node_part bs x                  the bytes of node record x
---   tree_in bs, counts_in bs        the nodes by number, and their counts
---   samples_in bs                   the samples by the number of their record
---   record_of bs n s                which of the first n sample records names the slot s
---   table_upto bs n, table_in bs    what the slots hold by the first n sample records, and by all
+--   end bs                           where the last 14 bytes begin, the trailer
+--   sample_total bs, node_total bs   how many records of samples and of nodes the trailer says there are
+--   sample_part bs i                 the bytes of sample record i
+--   node_part bs x                   the bytes of node record x
+--   tree_in bs, counts_in bs         the nodes by number, and their counts
+--   samples_in bs                    the samples by the number of their record
+--   record_of bs n s                 which of the first n sample records names the slot s
+--   table_upto bs n, table_in bs     what the slots hold by the first n sample records, and by all
 use Rattle.std.specs.Prelude.{ℕ, ◌+◌, ◌-◌, ◌*◌, true, List, length, map, Option, ◌==◌}
 use Rattle.std.specs.List.{range_with_len}
 use Rattle.std.specs.Option.{option_map}

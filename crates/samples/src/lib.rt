@@ -7,6 +7,7 @@ mod sample;
 mod slots;
 mod verdict;
 
+pub use candidate::Candidate;
 pub use refusal::Refusal;
 pub use sample::{MAX_FIBRE, MAX_VALUE, Reading, Sample};
 pub use slots::{Held, SLOTS, Slots};

@@ -57,7 +57,7 @@ struct Question<'a, M> {
 impl<M: Measure> Question<'_, M> {
     // How many of the k nearest samples have each fibre. A run of slots is tallied where a tree is drawn: the two have one
     // statement in common.
-    fn nearest_votes(&self, k: u16) -> [u16; CODES]
+    fn nearest_votes(&self, k: u16) -> [u32; CODES]
         requires { k ≤ samples (table self.now.slots.now) }
         ensures { (f : ℕ) → f < 8 → slice_index result f ≡ votes_on M.weighed M.joined self.now k f }
     {

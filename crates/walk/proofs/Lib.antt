@@ -1,0 +1,14 @@
+pub mod Answered
+pub mod Begun
+pub mod Entered
+pub mod Filling
+pub mod Moved
+pub mod Opening
+pub mod Parted
+pub mod Pushed
+pub mod Settling
+pub mod Shown
+pub mod Spotting
+pub mod Stepping
+pub mod Totals
+pub mod Whole

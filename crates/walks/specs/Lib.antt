@@ -1,0 +1,4 @@
+pub mod Views
+pub mod Scenes
+pub mod Walk
+pub mod Laws
