@@ -89,18 +89,41 @@ def withdraw(samples, numbers):
     return "W"
 
 
-def ask(measure, samples, numbers, explain):
+def refusal_of(samples, numbers):
+    """Why a question is refused, or None."""
     k, n, d, *reading = numbers
     if not 1 <= k <= MOST_NEAREST or n == 0 or d == 0 or n < d or max(reading) > MOST_VALUE:
         return OUT_OF_RANGE
     if k > len(samples):
         return TOO_FEW
-    ranked = sorted((weigh(measure, values, reading), slot, fibre)
-                    for slot, (fibre, values) in samples.items())
+    return None
+
+
+def rank(measure, samples, reading):
+    """The samples as (weight, slot, fibre), the nearest first."""
+    return sorted((weigh(measure, values, reading), slot, fibre)
+                  for slot, (fibre, values) in samples.items())
+
+
+def count_votes(fibres):
     votes = [0] * (MOST_FIBRE + 1)
-    for weight, slot, fibre in ranked[:k]:
+    for fibre in fibres:
         votes[fibre] += 1
-    verdict = votes.index(max(votes))       # the first of the greatest: the lowest code
+    return votes
+
+
+def commonest(votes):
+    return votes.index(max(votes))          # the first of the greatest: the lowest code
+
+
+def ask(measure, samples, numbers, explain):
+    k, n, d, *reading = numbers
+    refusal = refusal_of(samples, numbers)
+    if refusal:
+        return refusal
+    ranked = rank(measure, samples, reading)
+    votes = count_votes(fibre for weight, slot, fibre in ranked[:k])
+    verdict = commonest(votes)
     explain(k, ranked, votes, verdict)
     return f"Q {verdict}"
 
@@ -120,8 +143,8 @@ def say_why(line_number, k, ranked, votes, verdict):
     print(f"  votes: {shown}\n  verdict: fibre {verdict}", file=sys.stderr)
 
 
-def answers_to(script, why=False):
-    """Yield the answer to each line in turn."""
+def answers_to(script, answer_question, rebuild=lambda samples: None):
+    """Yield the answer to each line in turn; a question's is that of `answer_question`."""
     lines = lines_of(script)
     letter, numbers = read_line(lines[0]) if lines else (None, None)
     if len(script) > MOST_BYTES or letter != b"M" or numbers[0] > DAMPED:
@@ -136,14 +159,22 @@ def answers_to(script, why=False):
         elif letter == b"W":
             yield withdraw(samples, numbers)
         elif letter == b"R":
+            rebuild(samples)
             yield "R"
         elif letter == b"Q":
-            explain = (lambda *told: say_why(line_number, *told)) if why else say_nothing
-            yield ask(measure, samples, numbers, explain)
+            yield answer_question(measure, samples, numbers, line_number)
         else:
             yield UNREADABLE
 
 
-if __name__ == "__main__":
-    for answer in answers_to(sys.stdin.buffer.read(), why="--why" in sys.argv[1:]):
+def print_answers(answers):
+    for answer in answers:
         sys.stdout.buffer.write(answer.encode() + b"\n")
+
+
+if __name__ == "__main__":
+    def answer_question(measure, samples, numbers, line_number):
+        explain = (lambda *told: say_why(line_number, *told)) if "--why" in sys.argv[1:] else say_nothing
+        return ask(measure, samples, numbers, explain)
+
+    print_answers(answers_to(sys.stdin.buffer.read(), answer_question))

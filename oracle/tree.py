@@ -55,13 +55,18 @@ def draw(samples, depth, corner, nodes):
         nodes[at] = ("shrink", depth, corner, at + 1, rim, counts(samples))
 
 
+def child_of(nodes, at, values):
+    """The number of the child of a split or a shrink in which values belong."""
+    kind, depth, corner, first, second, tally = nodes[at]
+    inside = prefix(values, nodes[first][1]) == nodes[first][2]
+    return first if inside else second
+
+
 def leaf_of(nodes, values):
     """The number of the leaf in which values belong."""
     at = 0
     while nodes[at][0] != "leaf":
-        first = nodes[at][3]
-        inside = prefix(values, nodes[first][1]) == nodes[first][2]
-        at = first if inside else nodes[at][4]
+        at = child_of(nodes, at, values)
     return at
 
 

@@ -155,7 +155,9 @@ fn told(field: &Field, kind: Kind, bounds: Option<Bounds>) -> ArrayVec<Node, MAX
 #[test]
 fn told_trees(rt: HostRuntime) -> Result<(), Fail> {
     let field = five()?;
-    let mut same = Field::with_tree(told(&field, Kind::Leaf, None)).ok().unwrap_or_default();
+    let mut same = Field::with_tree(told(&field, Kind::Leaf, None))
+        .ok()
+        .unwrap_or_default();
     assert_eq!(rt; same.nodes().len(), 3);
     assert_eq!(rt; node(&rt, &same, 0).counts, [0; 8]);
     same.admit(9, 6, &[700, 0, 0, 0, 0, 0, 0, 0])?;
@@ -163,8 +165,14 @@ fn told_trees(rt: HostRuntime) -> Result<(), Fail> {
     assert_eq!(rt; Field::with_tree(ArrayVec::new()).err(), Some(Flaw::Root));
     // Node 2 is then the child of nodes 0 and 1, and node 1 has it for both its children.
     let twice = Kind::Split { lower: 2, upper: 2 };
-    assert_eq!(rt; Field::with_tree(told(&field, twice, None)).err(), Some(Flaw::Links(1)));
+    assert_eq!(rt;
+        Field::with_tree(told(&field, twice, None)).err(),
+        Some(Flaw::Links(1))
+    );
     let everything = Some(Bounds::everything());
-    assert_eq!(rt; Field::with_tree(told(&field, Kind::Leaf, everything)).err(), Some(Flaw::Boxes(0)));
+    assert_eq!(rt;
+        Field::with_tree(told(&field, Kind::Leaf, everything)).err(),
+        Some(Flaw::Boxes(0))
+    );
     Ok(())
 }

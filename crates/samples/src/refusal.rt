@@ -12,6 +12,8 @@ pub enum Refusal {
     SlotEmpty = 11,
     // k is above the number of samples held.
     TooFewSamples = 12,
+    // A step of a query that has ended.
+    AfterTheEnd = 13,
     // A buffer is shorter than the file to be written.
     BufferTooSmall = 14,
     // A line of a script, or a whole script, that cannot be read.

@@ -1,0 +1,4 @@
+pub mod Calls
+pub mod Expected
+pub mod Promise
+pub mod Queries

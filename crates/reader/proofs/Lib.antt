@@ -1,0 +1,4 @@
+pub mod Asked
+pub mod Finishing
+pub mod Placed
+pub mod Righted

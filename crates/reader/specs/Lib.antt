@@ -1,0 +1,3 @@
+pub mod Rights
+pub mod Views
+pub mod Walked
