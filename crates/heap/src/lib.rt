@@ -4,7 +4,12 @@
 ghost use Rattle.std.specs.Prelude.{◌≤◌, length};
 
 mod calls;
+mod ranked;
 mod sift;
+#[cfg(test)]
+mod tests;
+
+pub use ranked::{Item, Ranked};
 
 // The first `len` places of the slice hold the items; none comes before the one above it. The caller lends the room, since
 // nothing here allocates: so how many places are taken stands beside the slice.
