@@ -2,10 +2,10 @@
 use Rattle.std.proofs.Common.{◌≡◌, ℕ, suc, ◌+◌, ◌-◌, ◌<◌, ◌≤◌, List, [], ◌∷◌, ◌++◌, length, take, set, Some, None, Option, sym, refl, ap, ◌∙◌, append_assoc, append-nil, length-set, arith}
 use Rattle.std.proofs.lemmas.List.{take_more_set, take_all}
 use Rattle.std.specs.Borrow.{Bor}
-use Rattle.std.specs.declared.str.Split.{Split}
 use Rattle.script.specs.Numbers.{both, number_of, numbers}
-use Rattle.script.specs.Steps.{Gives}
-use Rattle.script.proofs.Spoken.{Turn, word_next, word_none}
+use Rattle.script.specs.Steps.{Gives, NextWord}
+use Rattle.script.specs.declared.words.Words.{Words}
+use Rattle.script.proofs.Spoken.{word_next, word_none}
 
 -- Numbers in front of others, if there are others.
 abbrev all_before : List ℕ → Option (List ℕ) → Option (List ℕ)
@@ -13,7 +13,7 @@ all_before vs None = None
 all_before vs (Some us) = Some (vs ++ us)
 
 -- The first i of the n numbers of ws are those of vs, and the words give what is behind them.
-pub record Gathered (n : ℕ) (ws : List (List ℕ)) (i : ℕ) (vs : List ℕ) (words : Split ℕ) : Type 0 where
+pub record Gathered (n : ℕ) (ws : List (List ℕ)) (i : ℕ) (vs : List ℕ) (words : Words) : Type 0 where
   pub left : List (List ℕ)
   pub gives : Gives words left
   pub long : length vs ≡ n
@@ -27,12 +27,12 @@ before_push : (vs : List ℕ) (v : ℕ) (o : Option (List ℕ)) → all_before v
 before_push vs v None = refl
 before_push vs v (Some us) = ap Some (sym (append_assoc vs (v ∷ []) us))
 
-pub gathered_begins : (n : ℕ) (ws : List (List ℕ)) (vs : List ℕ) (words : Split ℕ) → length vs ≡ n → Gives words ws → Gathered n ws 0 vs words
+pub gathered_begins : (n : ℕ) (ws : List (List ℕ)) (vs : List ℕ) (words : Words) → length vs ≡ n → Gives words ws → Gathered n ws 0 vs words
 gathered_begins n ws vs words long g =
     let all : n ≡ n - 0 = omega arith in
     record { left = ws; gives = g; long = long; so_far = before_nil (numbers n ws) ∙ ap (λ m. all_before [] (numbers m ws)) all }
 
-module _ (n i : ℕ) (ws : List (List ℕ)) (vs : List ℕ) (words after : Split ℕ) (r : Option (Bor (List ℕ))) (h : Gathered n ws i vs words) (turn : Turn words r after) where
+module _ (n i : ℕ) (ws : List (List ℕ)) (vs : List ℕ) (words after : Words) (r : Option (Bor (List ℕ))) (h : Gathered n ws i vs words) (turn : NextWord words r after) where
   pub gathered_steps : (word : Bor (List ℕ)) (v : ℕ) → i < n → r ≡ Some word → Some v ≡ number_of word.now → Gathered n ws (i + 1) (set vs i v) after
   gathered_steps word v less e one =
       let next = word_next words after r word h.left h.gives turn e in

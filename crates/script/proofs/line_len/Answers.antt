@@ -7,4 +7,4 @@ use Rattle.script.proofs.line_len.Goals as goal
 pub returns-clause-value : goal.returns-clause-value
 returns-clause-value c =
     let found = position_from_yields_List ends _ _ c.position.result c.position.ensures.ran (YieldsList-from_slice _ c.iter.ensures.rest) (λ x b q k. search (rules, tests)) in
-    c.unwrap_or.ensures ∙ found_or_len c.args.text.now c.position.result found
+    c.unwrap_or.ensures ∙ found_or_len ends c.args.text.now c.position.result found

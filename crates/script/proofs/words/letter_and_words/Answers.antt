@@ -1,36 +1,34 @@
-use Rattle.std.proofs.Common.{◌≡◌, ◌∷◌, length, Some, sym, ap, ◌∙◌, arith}
-use Rattle.std.proofs.lemmas.Bool.{ltb-true, ltb-false}
+use Rattle.std.proofs.Common.{◌≡◌, [], ◌∷◌, false, eqb, length, refl, sym, ap, ◌∙◌, arith}
+use Rattle.std.proofs.lemmas.Bool.Decides.{nat_tests}
 use Rattle.std.proofs.lemmas.Result.{err_from_is_err_and}
-use Rattle.std.proofs.lemmas.Iterator.Splits.{YieldsList-from_str_split}
 use Rattle.script.specs.Lines.{words_of}
-use Rattle.script.proofs.Spoken.{foreign_line, unlettered_line, same_text, one_letter, word_next}
+use Rattle.script.specs.Steps.{words_left}
+use Rattle.script.proofs.Parted.{spaced}
+use Rattle.script.proofs.Spoken.{empty_line, unlettered_line}
 use Rattle.script.proofs.words.letter_and_words.Goals as goal
-use Rattle.script.proofs.words.letter_and_words.Goals.{in_default-via-then-as_bytes-lt1, in_default-via-else-as_bytes-lt1+else-this-lt2}
 
-pub returns-in_err-text : goal.returns-in_err-text
-returns-in_err-text c =
+pub returns-in_err-letter : goal.returns-in_err-letter
+returns-in_err-letter c =
     let refusal = err_from_is_err_and c.from_residual.result c.from_residual.ensures.1 in
-    rw refusal.1 (foreign_line c.args.line.now c.from_utf8.result c.map_err.result _ _ _ c.from_utf8.ensures.cases c.map_err.ensures.cases c.in_err-text.was)
+    let empty : length c.args.line.now ≡ 0 = grind arith in
+    rw refusal.1 (empty_line c.args.line.now empty)
 
-pub returns-in_default : goal.returns-in_default
-returns-in_default c =
-    let same = same_text c.args.line.now c.from_utf8.result c.map_err.result c.in_ok-text.text _ _ c.from_utf8.ensures.cases c.map_err.ensures.cases c.in_ok-text.was in
-    let there : c.next.result ≡ Some c.in_ok-first.first = grind arith in
-    let split = YieldsList-from_str_split 32 c.in_ok-text.text.now (omega arith) c.split-words.ensures.text c.split-words.ensures.has_more c.split-words.ensures.pattern in
-    let first = word_next c.split-words.result c.next.new.self c.next.result c.in_ok-first.first _ split.runs c.next.ensures.steps there in
-    let line = ap words_of (sym same) ∙ first.1 in
-    let bytes = c.as_bytes.ensures.value in
-    elim c.in_default.branch [
-      | in_default-via-then-as_bytes-lt1 w ↦ unlettered_line c.args.line.now c.in_ok-first.first.now first.0 line (λ e. omega (arith, ltb-true, ltb-false, ap length bytes))
-      | in_default-via-else-as_bytes-lt1+else-this-lt2 w ↦ unlettered_line c.args.line.now c.in_ok-first.first.now first.0 line (λ e. omega (arith, ltb-true, ltb-false, ap length bytes))
-    ]
+pub returns-then-letter-eq-SPACE : goal.returns-then-letter-eq-SPACE
+returns-then-letter-eq-SPACE c =
+    let line : c.args.line.now ≡ c.in_ok-letter.letter.now ∷ c.in_ok-letter.behind.now = grind arith in
+    unlettered_line c.args.line.now _ _ (spaced _ _ c.args.line.now line c.if-letter-eq-SPACE.true) (λ e. omega arith)
+
+pub returns-in_err-words : goal.returns-in_err-words
+returns-in_err-words c =
+    let refusal = err_from_is_err_and c.from_residual-in_err-words.result c.from_residual-in_err-words.ensures.1 in
+    let line : c.args.line.now ≡ c.in_ok-letter.letter.now ∷ c.in_ok-letter.behind.now = grind arith in
+    let letter : eqb c.in_ok-letter.letter.now 32 ≡ false = grind (arith, nat_tests) in
+    let long = c.in_err-words.ensures c.in_ok-letter.letter.now letter in
+    rw refusal.1 (unlettered_line c.args.line.now long.0 long.1 (ap words_of line ∙ long.2) (λ e. omega (arith, long.3)))
 
 pub returns : goal.returns
 returns c =
-    let same = same_text c.args.line.now c.from_utf8.result c.map_err.result c.in_ok-text.text _ _ c.from_utf8.ensures.cases c.map_err.ensures.cases c.in_ok-text.was in
-    let there : c.next.result ≡ Some c.in_ok-first.first = grind arith in
-    let split = YieldsList-from_str_split 32 c.in_ok-text.text.now (omega arith) c.split-words.ensures.text c.split-words.ensures.has_more c.split-words.ensures.pattern in
-    let first = word_next c.split-words.result c.next.new.self c.next.result c.in_ok-first.first _ split.runs c.next.ensures.steps there in
-    let bytes = c.as_bytes.ensures.value in
-    let letter = one_letter c.as_bytes.result.now c.from.result (omega arith) (omega arith) c.from.ensures in
-    (first.0, ap words_of (sym same) ∙ first.1 ∙ ap (λ w. w ∷ first.0) (sym bytes ∙ letter), first.2)
+    let line : c.args.line.now ≡ c.in_ok-letter.letter.now ∷ c.in_ok-letter.behind.now = grind arith in
+    let letter : eqb c.in_ok-letter.letter.now 32 ≡ false = grind (arith, nat_tests) in
+    let same : c.from.result ≡ c.in_ok-letter.letter.now = c.from.ensures in
+    (words_left c.in_ok-words.words, ap words_of line ∙ c.in_ok-words.ensures c.in_ok-letter.letter.now letter ∙ ap (λ k. (k ∷ []) ∷ words_left c.in_ok-words.words) (sym same), record { left = refl })

@@ -1,14 +1,20 @@
-use Rattle.std.proofs.Common.{sym, arith}
-use Rattle.script.proofs.Numbered.{number_read, number_long, number_other}
+use Rattle.std.proofs.Common.{length, sym, arith}
+use Rattle.std.proofs.lemmas.Bool.{eqb-false}
+use Rattle.std.proofs.lemmas.Bool.Decides.{nat_tests}
+use Rattle.std.proofs.lemmas.Result.{err_from_is_err_and}
+use Rattle.script.specs.Numbers.{is_number, number_of}
+use Rattle.script.proofs.Numbered.{read_stops, read_whole}
 use Rattle.script.proofs.words.number.Goals as goal
-use Rattle.script.proofs.words.number.Goals.{then-word-gt-MAX_DIGITS-via-then-word-gt-MAX_DIGITS, then-word-gt-MAX_DIGITS-via-else-word-gt-MAX_DIGITS+then-not-all_digits}
 
-pub returns-then-word-gt-MAX_DIGITS : goal.returns-then-word-gt-MAX_DIGITS
-returns-then-word-gt-MAX_DIGITS c =
-    elim c.then-word-gt-MAX_DIGITS.branch [
-      | then-word-gt-MAX_DIGITS-via-then-word-gt-MAX_DIGITS w ↦ number_long c.args.word.now (omega arith)
-      | then-word-gt-MAX_DIGITS-via-else-word-gt-MAX_DIGITS+then-not-all_digits w ↦ number_other c.args.word.now (sym w.if-not-all_digits.ensures)
-    ]
+pub returns-then-is_empty : goal.returns-then-is_empty
+unfolding number_of is_number
+returns-then-is_empty c = grind (arith, nat_tests, c.then-is_empty.either)
+
+pub returns-in_err-value : goal.returns-in_err-value
+returns-in_err-value c =
+    let refusal = err_from_is_err_and c.from_residual.result c.from_residual.ensures.1 in
+    rw refusal.1 (read_stops c.args.word.now c.loop-byte.byte-index c.loop-byte.value c.loop-byte.invariant.0 (omega arith) c.in_err-value.ensures)
 
 pub returns : goal.returns
-returns c = number_read c.args.word.now c.parse.result c.map_err.result _ c.parse.ensures.value.0 (sym c.if-not-all_digits.ensures) (omega arith) c.map_err.ensures.cases
+returns c = read_whole c.args.word.now c.loop-byte.byte-index c.loop-byte.value c.loop-byte.invariant.0 (omega arith)
+    (omega (arith, eqb-false (length c.args.word.now) 0 (sym c.if-is_empty.ensures))) (omega arith) c.loop-byte.invariant.1
