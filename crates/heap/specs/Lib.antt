@@ -1,4 +1,3 @@
 pub mod Contents
 pub mod Laws
 pub mod Order
-pub mod Ranks

@@ -3,11 +3,11 @@ ghost use Rattle.std.specs.Prelude.{◌≡◌, ◌-◌, ◌<◌, Some, [], ◌�
 ghost use Rattle.std.specs.Iterator.{at_most};
 ghost use Rattle.std.specs.List.Sorted.{IsPermutation};
 ghost use Rattle.heap.specs.Contents.{content, room, Pushed, Popped, First};
-ghost use Rattle.heap.specs.Order.{ahead, Heaped, Kept};
+ghost use Rattle.heap.specs.Order.{Heaped, Kept};
 
-use super::{Heap, sift};
+use super::{Heap, Item, sift};
 
-impl<'a, T: Ord + Copy> Heap<'a, T> {
+impl<'a, T: Item + Copy> Heap<'a, T> {
     // A heap that holds nothing, with room for as many items as the slice has places.
     pub fn new(items: &'a mut [T]) -> Heap<'a, T>
         ensures empty { content result ≡ [] }
@@ -20,7 +20,7 @@ impl<'a, T: Ord + Copy> Heap<'a, T> {
     pub fn push(&mut self, item: T) -> Result<(), T>
         ensures cases { Pushed (content self.old) (room self.old) item (content self.new) result }
         ensures room { room self.new ≡ room self.old }
-        ensures heaped { Heaped (ahead T.cmp) (content self.old) → Heaped (ahead T.cmp) (content self.new) }
+        ensures heaped { Heaped T.ahead (content self.old) → Heaped T.ahead (content self.new) }
     {
         if self.len == self.items.len() {
             return Err(item);
@@ -34,8 +34,8 @@ impl<'a, T: Ord + Copy> Heap<'a, T> {
     pub fn pop(&mut self) -> Option<T>
         ensures cases { Popped (content self.old) (content self.new) result }
         ensures room { room self.new ≡ room self.old }
-        ensures heaped { Heaped (ahead T.cmp) (content self.old) → Heaped (ahead T.cmp) (content self.new) }
-        ensures first { Heaped (ahead T.cmp) (content self.old) → First (ahead T.cmp) (content self.old) result }
+        ensures heaped { Heaped T.ahead (content self.old) → Heaped T.ahead (content self.new) }
+        ensures first { Heaped T.ahead (content self.old) → First T.ahead (content self.old) result }
     {
         let last = self.len.checked_sub(1)?;
         let first = take_first(&mut self.items[..=last]);
@@ -45,12 +45,12 @@ impl<'a, T: Ord + Copy> Heap<'a, T> {
 }
 
 // A heap yields the items that it holds, each before all that are left.
-impl<T: Ord + Copy> Iterator for Heap<'_, T> {
+impl<T: Item + Copy> Iterator for Heap<'_, T> {
     type Item = T;
 
     ghost remaining = { λ h. at_most (length (content h)) };
 
-    ghost next_gives = { λ s r t. Popped (content s) (content t) r × (room t ≡ room s) × (Heaped (ahead T.cmp) (content s) → Heaped (ahead T.cmp) (content t)) × (Heaped (ahead T.cmp) (content s) → First (ahead T.cmp) (content s) r) };
+    ghost next_gives = { λ s r t. Popped (content s) (content t) r × (room t ≡ room s) × (Heaped T.ahead (content s) → Heaped T.ahead (content t)) × (Heaped T.ahead (content s) → First T.ahead (content s) r) };
 
     // Takes the item that comes first out of the heap; none where nothing is held.
     fn next(&mut self) -> Option<T> {
@@ -60,9 +60,9 @@ impl<T: Ord + Copy> Iterator for Heap<'_, T> {
 
 // Writes an item into the last place and lets it rise. That there is a place is asked of these steps one by one: a type for
 // slices that are not empty would be taken apart in each of them.
-fn put<T: Ord + Copy>(items: &mut [T], item: T)
+fn put<T: Item + Copy>(items: &mut [T], item: T)
     requires { 0 < length items.old }
-    ensures heaped { Kept (ahead T.cmp) items.old (length items.old - 1) → Heaped (ahead T.cmp) items.new }
+    ensures heaped { Kept T.ahead items.old (length items.old - 1) → Heaped T.ahead items.new }
     ensures items { IsPermutation (take (length items.old - 1) items.old ++ item ∷ []) items.new }
 {
     let last = items.len() - 1;
@@ -71,11 +71,11 @@ fn put<T: Ord + Copy>(items: &mut [T], item: T)
 }
 
 // Takes the first item out, and lets the last one sink from its place.
-fn take_first<T: Ord + Copy>(items: &mut [T]) -> T
+fn take_first<T: Item + Copy>(items: &mut [T]) -> T
     requires { 0 < length items.old }
-    ensures heaped { Heaped (ahead T.cmp) items.old → Kept (ahead T.cmp) items.new (length items.old - 1) }
+    ensures heaped { Heaped T.ahead items.old → Kept T.ahead items.new (length items.old - 1) }
     ensures items { IsPermutation items.old (take (length items.old - 1) items.new ++ result ∷ []) }
-    ensures first { Heaped (ahead T.cmp) items.old → First (ahead T.cmp) items.old (Some result) }
+    ensures first { Heaped T.ahead items.old → First T.ahead items.old (Some result) }
 {
     let first = items[0];
     let last = items.len() - 1;

@@ -28,7 +28,7 @@ decimal_grows : (v : ℕ) (w : List ℕ) → v ≤ decimal v w
 decimal_grows v [] = omega arith
 decimal_grows v (b ∷ bs) = let later = decimal_grows (10 * v + (b - 48)) bs in omega arith
 
--- The first i bytes of the word are digits, and v is the number that they write.
+-- After i bytes: the word writes what v with the bytes behind them writes, and is all digits just where those are.
 abbrev pub ReadSoFar : List ℕ → ℕ → ℕ → Type 0
 ReadSoFar w i v = (decimal 0 w ≡ decimal v (drop i w)) × (list_all is_ascii_digit w ≡ list_all is_ascii_digit (drop i w))
 

@@ -1,12 +1,12 @@
 use Rattle.std.proofs.Common.{◌+◌, take, drop, sym, ◌∙◌, subst, arith}
 use Rattle.std.proofs.lemmas.List.{get_or-take, length-take-le, take_at}
-use Rattle.heap.specs.Order.{ahead, Kept, Heaped}
+use Rattle.heap.specs.Order.{Kept, Heaped}
 use Rattle.heap.proofs.Contents.{kept_same}
 use Rattle.heap.proofs.Heap.push.Goals as goal
 
 pub returns-clause-heaped : goal.returns-clause-heaped
 returns-clause-heaped g c was =
-    let lt = ahead g.T.Ord.cmp in
+    let lt = g.T.Item.ahead in
     let xs = c.args.self.now.items.now in
     let n = c.args.self.now.len in
     let zs = c.put.new.items in

@@ -2,7 +2,7 @@ use Rattle.std.proofs.Common.{◌≡◌, ℕ, ◌-◌, ◌<◌, [], ◌∷◌, �
 use Rattle.std.specs.List.Sorted.{IsPermutation}
 use Rattle.std.proofs.lemmas.List.{get_or-take, get_or_append_left, get_or_default, length-take-le, take_at}
 use Rattle.std.proofs.lemmas.List.Sorted.{IsPermutation-append_left, IsPermutation-trans}
-use Rattle.heap.specs.Order.{above, ahead, KeptBelow}
+use Rattle.heap.specs.Order.{above, KeptBelow}
 use Rattle.heap.proofs.Contents.{kept_same, last_off}
 use Rattle.heap.proofs.Order.{order}
 use Rattle.heap.proofs.Sifts.{top_first}
@@ -27,13 +27,13 @@ returns-clause-items g c =
 pub returns-clause-first : goal.returns-clause-first
 returns-clause-first g c was d k l =
     let xs = c.args.items.now in
-    let h = top_first (ahead g.T.Ord.cmp) (order g.met.T.Ord.total) (length xs) (λ i. get_or xs i d) (was d) k l in
+    let h = top_first g.T.Item.ahead (order g.met.T.Item.one g.met.T.Item.neither g.met.T.Item.carries) (length xs) (λ i. get_or xs i d) (was d) k l in
     let e = get_or_default xs 0 d c.index-items-0.result (omega arith) in
     cc
 
 pub returns-clause-heaped : goal.returns-clause-heaped
 returns-clause-heaped g c was =
-    let lt = ahead g.T.Ord.cmp in
+    let lt = g.T.Item.ahead in
     let xs = c.args.items.now in
     let n = length xs in
     let ys = c.swap.new.self in

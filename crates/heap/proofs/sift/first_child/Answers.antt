@@ -1,14 +1,13 @@
 use Rattle.std.proofs.Common.{◌≡◌, ◌+◌, ◌*◌, get_or, sym, ap, ◌∙◌, ⊎_elim, arith}
 use Rattle.std.proofs.lemmas.Bool.{cases_eq}
 use Rattle.heap.proofs.Order.{order, itself}
-use Rattle.heap.specs.Order.{ahead}
 use Rattle.heap.proofs.sift.first_child.Goals as goal
 use Rattle.heap.proofs.sift.first_child.Goals.{else-right-items-via-then-right-items+else-ahead_at, else-right-items-via-else-right-items}
 
 pub returns-then-ahead_at : goal.returns-then-ahead_at
 returns-then-ahead_at g c =
-    let lt = ahead g.T.Ord.cmp in
-    let o = order g.met.T.Ord.total in
+    let lt = g.T.Item.ahead in
+    let o = order g.met.T.Item.one g.met.T.Item.neither g.met.T.Item.carries in
     let xs = c.args.items.now in
     let left = 2 * c.args.at + 1 in
     let right = left + 1 in
@@ -25,8 +24,8 @@ returns-then-ahead_at g c =
 
 pub returns-else-right-items : goal.returns-else-right-items
 returns-else-right-items g c =
-    let lt = ahead g.T.Ord.cmp in
-    let o = order g.met.T.Ord.total in
+    let lt = g.T.Item.ahead in
+    let o = order g.met.T.Item.one g.met.T.Item.neither g.met.T.Item.carries in
     let xs = c.args.items.now in
     let left = 2 * c.args.at + 1 in
     record {

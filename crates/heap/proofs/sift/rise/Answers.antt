@@ -2,14 +2,14 @@ use Rattle.std.proofs.Common.{ℕ, length, get_or, sym, ap, ◌∙◌, ⊎_elim,
 use Rattle.std.proofs.lemmas.List.Edits.{Swapped}
 use Rattle.std.proofs.lemmas.List.Sorted.{IsPermutation-trans}
 use Rattle.std.proofs.lemmas.Bool.{cases_eq}
-use Rattle.heap.specs.Order.{above, ahead}
+use Rattle.heap.specs.Order.{above}
 use Rattle.heap.proofs.Order.{order}
 use Rattle.heap.proofs.Sifts.{rise_but, rise_over}
 use Rattle.heap.proofs.sift.rise.Goals as goal
 
 pub returns-then-not-ahead_at : goal.returns-then-not-ahead_at
 returns-then-not-ahead_at g c =
-    let lt = ahead g.T.Ord.cmp in
+    let lt = g.T.Item.ahead in
     let xs = c.loop-at.items in
     record {
       heaped = λ was d k p l.
@@ -21,8 +21,8 @@ returns-then-not-ahead_at g c =
 
 pub loop-at-preserved : goal.loop-at-preserved
 loop-at-preserved g c =
-    let lt = ahead g.T.Ord.cmp in
-    let o = order g.met.T.Ord.total in
+    let lt = g.T.Item.ahead in
+    let o = order g.met.T.Item.one g.met.T.Item.neither g.met.T.Item.carries in
     let n = length c.args.items.now in
     let at = c.loop-at.at in
     let f = λ (d : g.row.T.Denot) (k : ℕ). get_or c.loop-at.items k d in

@@ -1,12 +1,12 @@
 use Rattle.std.proofs.Common.{◌-◌, ◌<◌, length, get_or}
 use Rattle.std.specs.List.Sorted.{IsPermutation}
-use Rattle.heap.specs.Order.{ahead, Kept}
+use Rattle.heap.specs.Order.{Kept}
 use Rattle.heap.proofs.Sifts.{But, Over}
 use Rattle.heap.proofs.sift.rise.Given as goal
 
 abbrev pub invariant-loop-at : goal.invariant-loop-at
 invariant-loop-at g l =
-    let lt = ahead g.T.Ord.cmp in
+    let lt = g.T.Item.ahead in
     let n = length l.initial.items in
     (l.at < n) × IsPermutation l.initial.items l.items × (Kept lt l.initial.items (n - 1) → (d : g.row.T.Denot) → But lt n (λ k. get_or l.items k d) l.at × Over lt n (λ k. get_or l.items k d) l.at)
 
